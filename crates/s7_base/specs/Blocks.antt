@@ -1,0 +1,53 @@
+-- What a program is: lists of code blocks and of data blocks.
+use Rattle.std.specs.Prelude.{◌≡◌, ℕ, ◌≤◌, ◌==◌, ◌&&◌, Bool, true, false, List, [], ◌∷◌, length, All, Option, IsSome}
+use Rattle.std.specs.List.{find}
+use Rattle.s7_base.specs.declared.blocks.CodeKind.{CodeKind}
+use Rattle.s7_base.specs.declared.blocks.CodeKind.TheVariants.{Ob, Fb, Fc}
+use Rattle.s7_base.specs.declared.statement.Statement.{Statement}
+use Rattle.s7_base.specs.Instruction.{instruction_of}
+
+-- a code block: its kind and number, the bytes of its temporary data, its statements
+pub record Code : Type 0 where
+  pub kind : CodeKind
+  pub number : ℕ
+  pub temp : ℕ
+  pub statements : List Statement
+
+-- a data block: its number and its first bytes
+pub record Data : Type 0 where
+  pub number : ℕ
+  pub bytes : List ℕ
+
+pub record Program : Type 0 where
+  pub codes : List Code
+  pub data_blocks : List Data
+
+abbrev pub same_kind : CodeKind → CodeKind → Bool
+same_kind Ob Ob = true
+same_kind Fb Fb = true
+same_kind Fc Fc = true
+same_kind _ _ = false
+
+-- the code block of this name, if it is loaded
+abbrev pub code_of : Program → CodeKind → ℕ → Option Code
+code_of program kind number = find (λ code. same_kind code.kind kind && code.number == number) program.codes
+
+-- the data block of this number, if it is loaded
+abbrev pub data_of : Program → ℕ → Option Data
+data_of program number = find (λ data_block. data_block.number == number) program.data_blocks
+
+-- an OB1 without temporary data, of at most 256 statements of the language
+pub record IsMain (code : Code) : Type 0 where
+  pub kind : code.kind ≡ Ob
+  pub number : code.number ≡ 1
+  pub temp : code.temp ≡ 0
+  pub few : length code.statements ≤ 256
+  pub each : All (λ s. IsSome (instruction_of s)) code.statements
+
+-- one code block, which is such an OB1, and no data block
+abbrev pub IsAlone : List Code → List Data → Type 0
+IsAlone (main ∷ []) [] = IsMain main
+IsAlone _ _ = ⊥
+
+abbrev pub IsWellFormed : Program → Type 0
+IsWellFormed program = IsAlone program.codes program.data_blocks

@@ -1,0 +1,4 @@
+pub mod Blocks
+pub mod Fitting
+pub mod Instruction
+pub mod Priorities
