@@ -53,6 +53,9 @@ pub record IsPlaced (i : BitInstruction) : Type 0 where
   pub at_byte : i.at_byte ≤ last_byte i.area
   pub bit : i.bit ≤ 7
 
+abbrev pub HasOperand : Instruction → Type 0
+HasOperand (Bit i) = IsPlaced i
+
 infixl 10 ◌>>=◌
 abbrev pub ◌>>=◌ : {A B : Type 0} → Option A → (A → Option B) → Option B
 None >>= f = None

@@ -1,6 +1,6 @@
 //! What a stored statement means: instructions by groups.
-ghost use Rattle.std.specs.Prelude.{◌≡◌, Some};
-ghost use Rattle.s7_base.specs.Instruction.{operation_number, operation_of, area_number, area_of, last_byte, bit_statement, instruction_of, IsPlaced};
+ghost use Rattle.std.specs.Prelude.{◌≡◌, Some, IfSome};
+ghost use Rattle.s7_base.specs.Instruction.{operation_number, operation_of, area_number, area_of, last_byte, bit_statement, instruction_of, IsPlaced, HasOperand};
 
 use crate::Statement;
 
@@ -136,7 +136,8 @@ impl Statement {
     /// What the statement means. None where it is no statement of the language: no operation or area has its
     /// numbers, or the operand does not lie in the area.
     pub fn instruction(&self) -> Option<Instruction>
-        ensures { result ≡ instruction_of self.now }
+        ensures meaning { result ≡ instruction_of self.now }
+        ensures placed { IfSome result HasOperand }
     {
         let operation = operation_from(self.op)?;
         let area = area_from(self.area)?;

@@ -1,0 +1,94 @@
+-- How deep the recursion is allowed to go makes no difference once it is deep enough.
+use Rattle.std.proofs.Common.{◌≡◌, ℕ, zero, suc, ◌+◌, ◌<◌, ◌≤◌, nat_lt, List, [], ◌∷◌, Option, Some, None, refl, ap, arith}
+use Rattle.std.specs.Prelude.{slice_get, if◌then◌else◌}
+use Rattle.std.proofs.lemmas.Bool.{cond_both, ltb-true}
+use Rattle.s7_base.specs.declared.statement.Statement.{Statement}
+use Rattle.s7_base.specs.declared.blocks.BlockRef.{BlockRef}
+use Rattle.s7_base.specs.declared.entry.Request.{Request}
+use Rattle.s7_base.specs.declared.entry.Answer.{Answer}
+use Rattle.s7_base.specs.Blocks.{Program}
+use Rattle.mc_machine.specs.declared.areas.Memory.{Memory}
+use Rattle.mc_machine.specs.declared.places.Level.{Level}
+use Rattle.mc_machine.specs.declared.places.Mode.TheVariants.{Fresh, Ticking}
+use Rattle.mc_machine.specs.declared.places.Place.{Place}
+use Rattle.mc_machine.specs.declared.places.Place.TheVariants.{AtOutputs, AtInputs, AtCycle, Over, At}
+use Rattle.mc_machine.specs.Effect.{with_status}
+use Rattle.mc_machine.specs.Meaning.{State, Undefined, Rest, Meaning, Move, Goes, Calls, Reaction, Again, Turn, Asks, Moves, Leaves, Ends, statements_of, takes, answered, resume, noting, moves, reacts, completed, took, asking, does, runs, turn_of, turn, body_within, left, body}
+
+-- two continuations agree wherever no more is left than this
+pub record Agree (rest rest' : Rest) (bound : ℕ) : Type 0 where
+  pub at : (s : State) (a : List Answer) → left s a ≤ bound → rest s a ≡ rest' s a
+
+-- two meanings are the same wherever less is left than this
+pub record Same (m m' : Meaning) (bound : ℕ) : Type 0 where
+  pub at : (p : Place) (rest rest' : Rest) (s : State) (a : List Answer) → left s a < bound → Agree rest rest' (left s a) → m p rest s a ≡ m' p rest' s a
+
+less_agrees : (rest rest' : Rest) (b c : ℕ) → c ≤ b → Agree rest rest' b → Agree rest rest' c
+less_agrees rest rest' b c le agree = record { at = λ s a h. agree.at s a (omega arith) }
+
+moves_same : (m m' : Meaning) (rest rest' : Rest) (b : ℕ) (s : State) (a : List Answer) → left s a < b → Same m m' b → Agree rest rest' b → (v : Move) → moves m rest s a v ≡ moves m' rest' s a v
+moves_same m m' rest rest' b s a lt same agree (Goes memory p) =
+    same.at p rest rest' (record s { memory = memory }) a lt (less_agrees rest rest' b (left s a) (omega arith) agree)
+moves_same m m' rest rest' b s a lt same agree (Calls memory p f) =
+    same.at p (resume m f rest) (resume m' f rest') (record s { memory = memory }) a lt
+    (record { at = λ s2 a2 h. same.at f.place rest rest' (record s2 { memory = with_status s2.memory f.kept }) a2 (omega arith) (less_agrees rest rest' b (left s2 a2) (omega arith) agree) })
+
+reacts_same : (m m' : Meaning) (rest rest' : Rest) (b : ℕ) (s : State) (a : List Answer) → left s a < b → Same m m' b → Agree rest rest' b → (v : Reaction) → reacts m rest s a v ≡ reacts m' rest' s a v
+reacts_same m m' rest rest' b s a lt same agree (Again n v) = moves_same m m' rest rest' b (noting s n) a lt same agree v
+
+asking_same : (m m' : Meaning) (here : Place) (r : Request) (rest rest' : Rest) (s : State) (a : List Answer) (b : ℕ) → left s a ≡ b → Same m m' b → Agree rest rest' b → asking m here r rest s a ≡ asking m' here r rest' s a
+asking_same m m' here r rest rest' s [] b e same agree = refl
+asking_same m m' here r rest rest' s (x ∷ a) b e same agree =
+    ap (λ v. if takes r x then v else Undefined) (reacts_same m m' rest rest' b (took s) a (omega arith) same agree (answered s.memory here r.ask x))
+
+-- a turn that completes a statement comes before the 256th
+abbrev pub Counts : Turn → ℕ → Type 0
+Counts (Moves _) since = since < 256
+Counts (Asks r) since = Unit {0}
+Counts Leaves since = Unit {0}
+Counts Ends since = Unit {0}
+
+does_same : (m m' : Meaning) (here : Place) (rest rest' : Rest) (s : State) (a : List Answer) (b : ℕ) → left s a ≡ b → Same m m' b → Agree rest rest' b → (t : Turn) → Counts t s.since → does m here rest s a t ≡ does m' here rest' s a t
+does_same m m' here rest rest' s a b e same agree (Asks r) c = asking_same m m' here r rest rest' s a b e same agree
+does_same m m' here rest rest' s a b e same agree (Moves v) c = moves_same m m' rest rest' b (completed s) a (omega arith) same agree v
+does_same m m' here rest rest' s a b e same agree Leaves c = agree.at s a (omega arith)
+does_same m m' here rest rest' s a b e same agree Ends c = refl
+
+counts_runs : (block : BlockRef) (at : ℕ) (level : Level) (since : ℕ) (memory : Memory) (o : Option Statement) → Counts (runs block at level since memory o) since
+counts_runs block at level since memory None = tt
+counts_runs block at level since memory (Some statement) =
+    cond_both (nat_lt since 256) _ _ (λ t. Counts t since) (λ e. ltb-true since 256 e) (λ e. tt)
+
+pub counts_turn : (program : Program) (since : ℕ) (memory : Memory) (p : Place) → Counts (turn_of program since memory p) since
+counts_turn program since memory AtOutputs = tt
+counts_turn program since memory AtInputs = tt
+counts_turn program since memory AtCycle = tt
+counts_turn program since memory Over = tt
+counts_turn program since memory (At block at level Fresh) = counts_runs block at level since memory (slice_get (statements_of program block) at)
+counts_turn program since memory (At block at level Ticking) = tt
+
+-- a turn asks no more of the meaning that it is given than what it says below what is left
+pub turn_same : (m m' : Meaning) (p : Place) (rest rest' : Rest) (s : State) (a : List Answer) → Same m m' (left s a) → Agree rest rest' (left s a) → turn m p rest s a ≡ turn m' p rest' s a
+turn_same m m' p rest rest' s a same agree =
+    does_same m m' p rest rest' s a (left s a) refl same agree (turn_of s.program s.since s.memory p) (counts_turn s.program s.since s.memory p)
+
+-- two depths that are great enough give the same
+pub enough : (n n' : ℕ) (p : Place) (rest rest' : Rest) (s : State) (a : List Answer) → left s a < n → left s a < n' → Agree rest rest' (left s a) → body_within n p rest s a ≡ body_within n' p rest' s a
+unfolding body_within
+enough zero n' p rest rest' s a lt lt' agree = absurd (omega arith)
+enough (suc n) zero p rest rest' s a lt lt' agree = absurd (omega arith)
+enough (suc n) (suc n') p rest rest' s a lt lt' agree =
+    turn_same (body_within n) (body_within n') p rest rest' s a
+    (record { at = λ p2 r2 r2' s2 a2 h ag. enough n n' p2 r2 r2' s2 a2 (omega arith) (omega arith) ag })
+    agree
+
+pub agrees : (rest : Rest) (b : ℕ) → Agree rest rest b
+agrees rest b = record { at = λ s a h. refl }
+
+-- the recursion without its bound: a place means one turn, and then what the places mean that it leads to
+pub body_turn : (p : Place) (rest : Rest) (s : State) (a : List Answer) → body p rest s a ≡ turn body p rest s a
+unfolding body body_within
+body_turn p rest s a =
+    turn_same (body_within (left s a)) body p rest rest s a
+    (record { at = λ p2 r2 r2' s2 a2 h ag. enough (left s a) (suc (left s2 a2)) p2 r2 r2' s2 a2 h (omega arith) ag })
+    (agrees rest (left s a))

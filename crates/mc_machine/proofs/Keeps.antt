@@ -1,0 +1,165 @@
+-- A turn of the machine keeps what is left to do.
+use Rattle.std.proofs.Common.{◌≡◌, ℕ, ◌+◌, ◌-◌, ◌<◌, ◌≤◌, true, List, [], ◌∷◌, ◌++◌, length, drop, Option, Some, None, refl, sym, ap, ◌∙◌, arith, append_assoc, append-nil, length-append, length-drop}
+use Rattle.std.proofs.lemmas.List.{drop-append-le, drop-drop}
+use Rattle.std.specs.Prelude.{if◌then◌else◌}
+use Rattle.s7_base.specs.declared.entry.Request.{Request}
+use Rattle.s7_base.specs.declared.entry.Answer.{Answer}
+use Rattle.s7_base.specs.declared.diagnostics.DiagCode.{DiagCode}
+use Rattle.s7_base.specs.Blocks.{Program}
+use Rattle.mc_machine.specs.declared.areas.Memory.{Memory}
+use Rattle.mc_machine.specs.declared.places.Note.{Note}
+use Rattle.mc_machine.specs.declared.places.Place.TheVariants.{AtOutputs, Over}
+use Rattle.mc_machine.specs.declared.places.Frame.{Frame}
+use Rattle.mc_machine.specs.Meaning.{Waits, Stopped, Undefined, Rest, Move, Goes, Calls, Reaction, Again, Turn, Asks, Moves, Leaves, Ends, with_note, resume, moves, reacts, took, does, body, turn_of, takes, answered, never, start, start_memory, start_notes, std}
+use Rattle.mc_machine.specs.Stands.{Config, newest, with_newest, state_of, rest_of, todo, StandsFor, IsMoved, Reacts, Follows, AsksAt, Keeps, turns_left}
+use Rattle.mc_machine.proofs.Enough.{Counts, body_turn}
+
+rest_push : (rest : Rest) (frames : List Frame) (frame : Frame) → rest_of rest (frames ++ frame ∷ []) ≡ resume body frame (rest_of rest frames)
+rest_push rest [] frame = refl
+rest_push rest (f ∷ frames) frame = rest_push (resume body f rest) frames frame
+
+-- one turn, which is known
+turns : (c : Config) (notes : List Note) (n : ℕ) (a : List Answer) (t : Turn) → turn_of c.program c.since c.memory c.place ≡ t → todo c notes n a ≡ does body c.place (rest_of never c.frames) (state_of c notes n) a t
+turns c notes n a t e =
+    body_turn c.place (rest_of never c.frames) (state_of c notes n) a
+    ∙ ap (does body c.place (rest_of never c.frames) (state_of c notes n) a) e
+
+moved : (c c' : Config) (notes : List Note) (n : ℕ) (a : List Answer) (memory : Memory) (since at : ℕ) (note : Option DiagCode) (v : Move) → IsMoved v c since at note c' → moves body (rest_of never c.frames) (record { program = c.program; memory = memory; since = since; notes = notes; taken = n }) a v ≡ todo c' notes n a
+moved c c' notes n a memory since at _ (Goes memory' place) e = sym (ap (λ x. todo x notes n a) e)
+moved c c' notes n a memory since at _ (Calls memory' place frame) e =
+    sym (ap (λ x. todo x notes n a) e
+    ∙ ap (λ k. body place k (record { program = c.program; memory = memory'; since = since; notes = notes; taken = n }) a) (rest_push never c.frames frame))
+
+-- what is left to do is the same after the turn
+keeps : (c c' : Config) (o : Option Request) (notes : List Note) (n : ℕ) (a : List Answer) (t : Turn) → turn_of c.program c.since c.memory c.place ≡ t → Follows t c o c' → todo c notes n a ≡ todo c' notes n a
+keeps c c' o notes n a (Asks r) e f = sym (ap (λ x. todo x notes n a) f.1)
+keeps c c' o notes n a (Moves v) e f = turns c notes n a (Moves v) e ∙ moved c c' notes n a c.memory (c.since + 1) c.at None v f.1
+keeps c c' o notes n a Leaves e f =
+    turns c notes n a Leaves e
+    ∙ ap (λ fs. rest_of never fs (state_of c notes n) a) f.2
+    ∙ ap (λ k. k (state_of c notes n) a) (rest_push never c'.frames f.1)
+    ∙ sym (ap (λ x. todo x notes n a) f.3)
+keeps c c' o notes n a Ends e f = absurd f
+
+-- the newest of the newest
+newest_more : (notes : List Note) (note : Note) → newest (newest notes ++ note ∷ []) ≡ newest (notes ++ note ∷ [])
+newest_more notes note =
+    let k : ℕ = length notes - 120 in
+    let l : List Note = notes ++ note ∷ [] in
+    let n = length-append notes (note ∷ []) in
+    let e : newest notes ++ note ∷ [] ≡ drop k l = sym (drop-append-le k notes (note ∷ []) (omega arith)) in
+    let d = length-drop k l in
+    let m : k + (length (drop k l) - 120) ≡ length l - 120 = omega arith in
+    ap newest e ∙ drop-drop (length (drop k l) - 120) k l ∙ ap (λ j. drop j l) m
+
+with_newest_note : (notes : List Note) (moment : ℕ) (note : Option DiagCode) → with_newest (newest notes) moment note ≡ newest (with_note notes moment note)
+with_newest_note notes moment None = refl
+with_newest_note notes moment (Some code) = newest_more notes (record { moment = moment; code = code })
+
+moved_diag : (c c' : Config) (since at : ℕ) (note : Option DiagCode) (v : Move) → IsMoved v c since at note c' → c'.diag ≡ with_newest c.diag at note
+moved_diag c c' since at _ (Goes memory p) e = ap (λ x. x.diag) e
+moved_diag c c' since at _ (Calls memory p f) e = ap (λ x. x.diag) e
+
+moved_at : (c c' : Config) (since at : ℕ) (note : Option DiagCode) (v : Move) → IsMoved v c since at note c' → c'.at ≡ at
+moved_at c c' since at _ (Goes memory p) e = ap (λ x. x.at) e
+moved_at c c' since at _ (Calls memory p f) e = ap (λ x. x.at) e
+
+-- a turn makes no diagnostic entry
+keeps_notes : (c c' : Config) (o : Option Request) (t : Turn) → Follows t c o c' → c'.diag ≡ c.diag
+keeps_notes c c' o (Asks r) f = ap (λ x. x.diag) f.1
+keeps_notes c c' o (Moves v) f = moved_diag c c' (c.since + 1) c.at None v f.1
+keeps_notes c c' o Leaves f = ap (λ x. x.diag) f.3
+keeps_notes c c' o Ends f = absurd f
+
+-- and stays at its moment
+keeps_at : (c c' : Config) (o : Option Request) (t : Turn) → Follows t c o c' → c'.at ≡ c.at
+keeps_at c c' o (Asks r) f = ap (λ x. x.at) f.1
+keeps_at c c' o (Moves v) f = moved_at c c' (c.since + 1) c.at None v f.1
+keeps_at c c' o Leaves f = ap (λ x. x.at) f.3
+keeps_at c c' o Ends f = absurd f
+
+pub asks_after : (c c' : Config) (r : Request) (o : Option Request) (t : Turn) → turn_of c.program c.since c.memory c.place ≡ t → Follows t c o c' → o ≡ Some r → AsksAt c' r
+asks_after c c' r o (Asks q) e f g =
+    let q_is : Some q ≡ Some r = sym f.0 ∙ g in
+    ap (λ x. turn_of x.program x.since x.memory x.place) f.1 ∙ e ∙ cc
+asks_after c c' r o (Moves v) e f g = absurd cc
+asks_after c c' r o Leaves e f g = absurd cc
+asks_after c c' r o Ends e f g = absurd f
+
+-- fewer turns are left after one that does not ask
+pub falls : (c c' : Config) (t : Turn) → Counts t c.since → Follows t c None c' → turns_left c' < turns_left c
+falls c c' (Asks r) n f = absurd cc
+falls c c' (Moves (Goes memory p)) n f = rw f.1 (omega arith)
+falls c c' (Moves (Calls memory p frame)) n f = rw f.1 (omega (arith, length-append c.frames (frame ∷ [])))
+falls c c' Leaves n f =
+    let e = ap (λ x. x.since) f.3 in
+    let l = ap length f.2 ∙ length-append c'.frames (f.1 ∷ []) in
+    omega arith
+falls c c' Ends n f = absurd f
+
+pub stands_keep : (program : Program) (c c' : Config) (o : Option Request) (given : List Answer) → Follows (turn_of c.program c.since c.memory c.place) c o c' → StandsFor program given c → StandsFor program given c'
+stands_keep program c c' o given f stands =
+    let t = turn_of c.program c.since c.memory c.place in
+    record {
+      notes = stands.notes;
+      keeps_newest = keeps_notes c c' o t f ∙ stands.keeps_newest;
+      moment = keeps_at c c' o t f ∙ stands.moment;
+      goes_on = λ more. stands.goes_on more ∙ keeps c c' o stands.notes (length given) more t refl f;
+    }
+
+pub keeps_on : (c0 c c' : Config) (o : Option Request) → Keeps c0 c → Follows (turn_of c.program c.since c.memory c.place) c o c' → Keeps c0 c'
+keeps_on c0 c c' o k f program given stands = stands_keep program c c' o given f (k program given stands)
+
+-- all diagnostic entries after an answer
+abbrev notes_reacted : Reaction → List Note → ℕ → List Note
+notes_reacted (Again note v) notes moment = with_note notes moment note
+
+reacted : (c c' : Config) (notes : List Note) (n at moment : ℕ) (a : List Answer) (v : Reaction) → moment ≡ n - 1 → Reacts v c at c' → reacts body (rest_of never c.frames) (record { program = c.program; memory = c.memory; since = 0; notes = notes; taken = n }) a v ≡ todo c' (notes_reacted v notes moment) n a
+reacted c c' notes n at moment a (Again note v) m e =
+    moved c c' (with_note notes (n - 1) note) n a c.memory 0 at note v e ∙ ap (λ k. todo c' (with_note notes k note) n a) (sym m)
+
+reacted_notes : (c c' : Config) (notes : List Note) (moment : ℕ) (v : Reaction) → Reacts v c moment c' → c.diag ≡ newest notes → c'.diag ≡ newest (notes_reacted v notes moment)
+reacted_notes c c' notes moment (Again note v) e n = moved_diag c c' 0 moment note v e ∙ ap (λ d. with_newest d moment note) n ∙ with_newest_note notes moment note
+
+reacted_at : (c c' : Config) (moment : ℕ) (v : Reaction) → Reacts v c moment c' → c'.at ≡ moment
+reacted_at c c' moment (Again note v) e = moved_at c c' 0 moment note v e
+
+-- an answer leads on
+takes_on : (c c' : Config) (r : Request) (x : Answer) (notes : List Note) (n moment : ℕ) (a : List Answer) → moment ≡ n → AsksAt c r → takes r x ≡ true → Reacts (answered c.memory c.place r.ask x) c moment c' → todo c notes n (x ∷ a) ≡ todo c' (notes_reacted (answered c.memory c.place r.ask x) notes moment) (n + 1) a
+takes_on c c' r x notes n moment a at e fit m =
+    turns c notes n (x ∷ a) (Asks r) e
+    ∙ ap (λ b. if b then reacts body (rest_of never c.frames) (took (state_of c notes n)) a (answered c.memory c.place r.ask x) else Undefined) fit
+    ∙ reacted c c' notes (n + 1) moment moment a (answered c.memory c.place r.ask x) (omega arith) m
+
+pub stands_take : (program : Program) (c c' : Config) (r : Request) (x : Answer) (given : List Answer) (moment : ℕ) → moment ≡ length given → AsksAt c r → takes r x ≡ true → Reacts (answered c.memory c.place r.ask x) c moment c' → StandsFor program given c → StandsFor program (given ++ x ∷ []) c'
+stands_take program c c' r x given moment at e fit m stands =
+    let reaction = answered c.memory c.place r.ask x in
+    let notes = notes_reacted reaction stands.notes moment in
+    let longer = length-append given (x ∷ []) in
+    record {
+      notes = notes;
+      keeps_newest = reacted_notes c c' stands.notes moment reaction m stands.keeps_newest;
+      moment = (let here = reacted_at c c' moment reaction m in omega arith);
+      goes_on = λ more.
+          ap (std program) (append_assoc given (x ∷ []) more) ∙ stands.goes_on (x ∷ more)
+          ∙ takes_on c c' r x stands.notes (length given) moment more at e fit m
+          ∙ ap (λ n. todo c' notes n more) (sym longer);
+    }
+
+-- at a request with no answer left the CPU waits
+pub stands_waits : (program : Program) (c : Config) (r : Request) (given : List Answer) → AsksAt c r → (stands : StandsFor program given c) → std program given ≡ Waits r (state_of c stands.notes (length given))
+stands_waits program c r given e stands =
+    ap (std program) (sym (append-nil given)) ∙ stands.goes_on [] ∙ turns c stands.notes (length given) [] (Asks r) e
+
+pub stands_stops : (program : Program) (c : Config) (given : List Answer) → c.place ≡ Over → (stands : StandsFor program given c) → std program given ≡ Stopped (state_of c stands.notes (length given))
+stands_stops program c given e stands =
+    ap (std program) (sym (append-nil given)) ∙ stands.goes_on [] ∙ turns c stands.notes (length given) [] Ends (ap (turn_of c.program c.since c.memory) e)
+
+-- at the start
+pub stands_start : (program : Program) (frames : List Frame) (diag : List Note) → frames ≡ [] → diag ≡ start_notes → StandsFor program [] (record { program = program; place = AtOutputs; frames = frames; memory = start_memory; since = 0; at = 0; diag = diag })
+stands_start program frames diag f d = record {
+  notes = start_notes;
+  keeps_newest = d;
+  moment = refl;
+  goes_on = λ more. ap (λ fs. body AtOutputs (rest_of never fs) (start program) more) (sym f);
+}

@@ -1,0 +1,5 @@
+pub mod Asked
+pub mod Enough
+pub mod Keeps
+pub mod Row
+pub mod Sound

@@ -1,0 +1,5 @@
+pub mod Effect
+pub mod EngineView
+pub mod Meaning
+pub mod Rung
+pub mod Stands

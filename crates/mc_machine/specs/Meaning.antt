@@ -1,0 +1,254 @@
+-- The standard CPU: what a program means, by one recursion over places and answers.
+use Rattle.std.specs.Prelude.{ℕ, zero, suc, ◌+◌, ◌-◌, ◌*◌, Bool, true, false, not, nat_lt, if◌then◌else◌, ◌&&◌, List, [], ◌∷◌, ◌++◌, length, replicate, Option, Some, None, slice_get}
+use Rattle.s7_base.specs.declared.statement.Statement.{Statement}
+use Rattle.s7_base.specs.declared.blocks.BlockRef.{BlockRef}
+use Rattle.s7_base.specs.declared.blocks.CodeKind.TheVariants.{Ob}
+use Rattle.s7_base.specs.declared.entry.Side.{Side}
+use Rattle.s7_base.specs.declared.entry.Loss.{Loss}
+use Rattle.s7_base.specs.declared.entry.Loss.TheVariants.{Failed, Suspect}
+use Rattle.s7_base.specs.declared.entry.Ask.{Ask}
+use Rattle.s7_base.specs.declared.entry.Ask.TheVariants as asks
+use Rattle.s7_base.specs.declared.entry.Request.{Request}
+use Rattle.s7_base.specs.declared.entry.Answer.{Answer}
+use Rattle.s7_base.specs.declared.entry.Answer.TheVariants as answers
+use Rattle.s7_base.specs.declared.diagnostics.DiagCode.{DiagCode}
+use Rattle.s7_base.specs.declared.diagnostics.DiagCode.TheVariants as notes
+use Rattle.s7_base.specs.Blocks.{Code, Program, code_of}
+use Rattle.s7_base.specs.Fitting.{fits}
+use Rattle.s7_base.specs.Priorities.{priority_of}
+use Rattle.mc_machine.specs.declared.areas.Memory.{Memory}
+use Rattle.mc_machine.specs.declared.places.Level.{Level}
+use Rattle.mc_machine.specs.declared.places.Mode.{Mode}
+use Rattle.mc_machine.specs.declared.places.Mode.TheVariants.{Fresh, Ticking}
+use Rattle.mc_machine.specs.declared.places.Place.{Place}
+use Rattle.mc_machine.specs.declared.places.Place.TheVariants.{AtOutputs, AtInputs, AtCycle, Over, At}
+use Rattle.mc_machine.specs.declared.places.Frame.{Frame}
+use Rattle.mc_machine.specs.declared.places.Note.{Note}
+use Rattle.mc_machine.specs.Effect.{effect_of, clear_status, with_status}
+
+-- how far a CPU has come: its program, what the statements see, the statements completed since the last answer,
+-- all diagnostic entries, and how many answers it has taken
+pub record State : Type 0 where
+  pub program : Program
+  pub memory : Memory
+  pub since : ℕ
+  pub notes : List Note
+  pub taken : ℕ
+
+-- how a run ends: no answer is left at a request; or the CPU has stopped; or the block has ended, with these
+-- answers left; or an answer did not fit
+pub data End : Type 0 where
+  Waits : (request : Request) (state : State) → End
+  Stopped : (state : State) → End
+  Left : (state : State) (answers : List Answer) → End
+  Undefined : End
+
+-- what follows, from a state and the answers left
+abbrev pub Rest : Type 0
+Rest = State → List Answer → End
+
+-- what a place means, given what follows where its block ends
+abbrev pub Meaning : Type 0
+Meaning = Place → Rest → Rest
+
+-- where a statement or an answer leads: to a place, or into a block and at its end to the place of the frame
+pub data Move : Type 0 where
+  Goes : (memory : Memory) (place : Place) → Move
+  Calls : (memory : Memory) (place : Place) (frame : Frame) → Move
+
+-- what happens at a place: the CPU asks; or a statement is completed; or the block ends; or the CPU has stopped
+pub data Turn : Type 0 where
+  Asks : (request : Request) → Turn
+  Moves : (move : Move) → Turn
+  Leaves : Turn
+  Ends : Turn
+
+-- what an answer does: perhaps a diagnostic entry is made, and then the CPU is elsewhere
+pub data Reaction : Type 0 where
+  Again : (note : Option DiagCode) (move : Move) → Reaction
+
+abbrev pub request_of : Ask → ℕ → Request
+request_of ask prio = record { prio = prio; ask = ask }
+
+-- the statements --
+
+abbrev pub statements_in : Option Code → List Statement
+statements_in None = []
+statements_in (Some code) = code.statements
+
+-- the statements of a block, none where it is not loaded
+abbrev pub statements_of : Program → BlockRef → List Statement
+statements_of program block = statements_in (code_of program block.kind block.number)
+
+-- the statement at a place, unless 256 statements were completed since the last answer; behind the last the block ends
+abbrev pub runs : BlockRef → ℕ → Level → ℕ → Memory → Option Statement → Turn
+runs block at level since memory None = Leaves
+runs block at level since memory (Some statement) =
+    if nat_lt since 256 then Moves (Goes (effect_of statement memory) (At block (at + 1) level Fresh)) else Asks (request_of asks.Tick level.priority)
+
+abbrev pub turn_of : Program → ℕ → Memory → Place → Turn
+turn_of program since memory AtOutputs = Asks (request_of (asks.Outputs memory.outputs) 1)
+turn_of program since memory AtInputs = Asks (request_of asks.Inputs 1)
+turn_of program since memory AtCycle = Asks (request_of asks.Cycle 1)
+turn_of program since memory Over = Ends
+turn_of program since memory (At block at level Fresh) = runs block at level since memory (slice_get (statements_of program block) at)
+turn_of program since memory (At block at level Ticking) = Asks (request_of asks.Tick level.priority)
+
+-- the answers --
+
+abbrev pub main_block : BlockRef
+main_block = record { kind = Ob; number = 1 }
+
+-- an organisation block begins on a level of its own
+abbrev pub level_of : ℕ → Level
+level_of ob = record { priority = priority_of ob }
+
+abbrev pub lost_note : Side → Loss → DiagCode
+lost_note side Failed = notes.LostFailed side
+lost_note side Suspect = notes.LostSuspect side
+
+-- a request that is not ended is made again as it is
+abbrev pub again : Place → Place
+again (At block at level mode) = At block at level Ticking
+again AtOutputs = AtOutputs
+again AtInputs = AtInputs
+again AtCycle = AtCycle
+again Over = Over
+
+-- a block goes on with its statement
+abbrev pub resumed : Place → Place
+resumed (At block at level mode) = At block at level Fresh
+resumed AtOutputs = AtOutputs
+resumed AtInputs = AtInputs
+resumed AtCycle = AtCycle
+resumed Over = Over
+
+abbrev pub with_inputs : Memory → List ℕ → Memory
+with_inputs memory image = record memory { inputs = image }
+
+-- the end of OB1 leads to the end of the cycle, with the status bits that it began over
+abbrev pub cycle_frame : Frame
+cycle_frame = record { place = AtCycle; kept = clear_status }
+
+-- OB1 begins over the input image that was answered
+abbrev pub begins_main : Memory → List ℕ → Move
+begins_main memory image =
+    Calls (with_status (with_inputs memory image) clear_status) (At main_block 0 (level_of 1) Fresh) cycle_frame
+
+-- alarms and jobs are not answered yet
+abbrev pub is_built : Answer → Bool
+is_built (answers.Alarm ob info) = false
+is_built (answers.Job job) = false
+is_built _ = true
+
+-- the CPU takes this answer to this request
+abbrev pub takes : Request → Answer → Bool
+takes request answer = fits request answer && is_built answer
+
+-- what an answer does at the place that asked
+abbrev pub answered : Memory → Place → Ask → Answer → Reaction
+answered memory place ask (answers.Lost side why) = Again (Some (lost_note side why)) (Goes memory (again place))
+answered memory place ask (answers.Back side) = Again (Some (notes.Back side)) (Goes memory (again place))
+answered memory place ask answers.Hold = Again None (Goes memory (again place))
+answered memory place ask (answers.CpuStop code) = Again (Some (notes.Stop code)) (Goes memory Over)
+answered memory place (asks.Outputs image) answers.Done = Again None (Goes memory AtInputs)
+answered memory place asks.Inputs (answers.Image image) = Again None (begins_main memory image)
+answered memory place asks.Cycle answers.Go = Again None (Goes memory AtOutputs)
+answered memory place asks.Tick answers.Done = Again None (Goes memory (resumed place))
+answered memory place _ _ = Again None (Goes memory place)
+
+-- the recursion --
+
+-- a frame goes on, with the status bits that it kept
+abbrev pub resume : Meaning → Frame → Rest → Rest
+resume meaning frame rest state given =
+    meaning frame.place rest (record state { memory = with_status state.memory frame.kept }) given
+
+-- a call is the meaning of the called block, and then of what follows it
+abbrev pub moves : Meaning → Rest → State → List Answer → Move → End
+moves meaning rest state given (Goes memory place) = meaning place rest (record state { memory = memory }) given
+moves meaning rest state given (Calls memory place frame) =
+    meaning place (resume meaning frame rest) (record state { memory = memory }) given
+
+-- one statement more was completed
+abbrev pub completed : State → State
+completed state = record state { since = state.since + 1 }
+
+-- a diagnostic entry, if there is one, is made at the moment of the last answer, 0 before any
+abbrev pub with_note : List Note → ℕ → Option DiagCode → List Note
+with_note all moment None = all
+with_note all moment (Some code) = all ++ record { moment = moment; code = code } ∷ []
+
+abbrev pub noting : State → Option DiagCode → State
+noting state note = record state { notes = with_note state.notes (state.taken - 1) note }
+
+-- an answer was taken; answer k, counted from 0, stands at moment k
+abbrev pub took : State → State
+took state = record state { since = 0; taken = state.taken + 1 }
+
+abbrev pub reacts : Meaning → Rest → State → List Answer → Reaction → End
+reacts meaning rest state given (Again note move) = moves meaning rest (noting state note) given move
+
+-- a place asks
+abbrev pub asking : Meaning → Place → Request → Rest → State → List Answer → End
+asking meaning place request rest state [] = Waits request state
+asking meaning place request rest state (answer ∷ given) =
+    if takes request answer then reacts meaning rest (took state) given (answered state.memory place request.ask answer)
+    else Undefined
+
+abbrev pub does : Meaning → Place → Rest → State → List Answer → Turn → End
+does meaning place rest state given (Asks request) = asking meaning place request rest state given
+does meaning place rest state given (Moves move) = moves meaning rest (completed state) given move
+does meaning place rest state given Leaves = rest state given
+does meaning place rest state given Ends = Stopped state
+
+-- one turn at a place, given what the places mean that it leads to
+abbrev pub turn : Meaning → Meaning
+turn meaning place rest state given = does meaning place rest state given (turn_of state.program state.since state.memory place)
+
+-- the recursion, at most so deep
+unfoldable pub body_within : ℕ → Meaning
+body_within zero place rest state given = Undefined
+body_within (suc n) place rest state given = turn (body_within n) place rest state given
+
+-- how deep the recursion can go: each turn completes a statement or takes an answer
+abbrev pub left : State → List Answer → ℕ
+left state given = 257 * length given + (256 - state.since)
+
+-- what a place means, given what follows where its block ends
+unfoldable pub body : Meaning
+body place rest state given = body_within (suc (left state given)) place rest state given
+
+-- nothing follows the cycle, which does not end
+abbrev pub never : Rest
+never state given = Undefined
+
+-- at the start the areas are 0 and the diagnostic entry START is made
+abbrev pub start_memory : Memory
+start_memory = record { inputs = replicate 64 0; outputs = replicate 64 0; flags = replicate 1024 0; status = clear_status }
+
+abbrev pub start_notes : List Note
+start_notes = record { moment = 0; code = notes.Start } ∷ []
+
+abbrev pub start : Program → State
+start program = record { program = program; memory = start_memory; since = 0; notes = start_notes; taken = 0 }
+
+-- what the standard CPU does with a program and answers
+abbrev pub std : Program → List Answer → End
+std program given = body AtOutputs never (start program) given
+
+-- the request at which it waits, if it does
+abbrev pub next_of : End → Option Request
+next_of (Waits request state) = Some request
+next_of (Stopped state) = None
+next_of (Left state given) = None
+next_of Undefined = None
+
+-- for each of the answers `more`, which come after the answers `before`, the request at which it is taken
+abbrev pub asked_after : Program → List Answer → List Answer → List (Option Request)
+asked_after program before [] = []
+asked_after program before (answer ∷ more) = next_of (std program before) ∷ asked_after program (before ++ answer ∷ []) more
+
+-- for each answer, the request at which it is taken
+abbrev pub asked : Program → List Answer → List (Option Request)
+asked program given = asked_after program [] given

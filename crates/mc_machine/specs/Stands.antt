@@ -1,0 +1,199 @@
+-- What it means that a machine stands for a program and the answers that it has taken.
+use Rattle.std.specs.Prelude.{◌≡◌, ◌≢◌, ℕ, suc, ◌+◌, ◌-◌, ◌*◌, List, [], ◌∷◌, ◌++◌, length, drop, Option, Some, None, IfSome, IsTrue, slice_get}
+use Rattle.std.specs.Option.{option_map}
+use Rattle.s7_base.specs.declared.entry.Ask.{Ask}
+use Rattle.s7_base.specs.declared.entry.Ask.TheVariants as asks
+use Rattle.s7_base.specs.declared.entry.Request.{Request}
+use Rattle.s7_base.specs.declared.entry.Answer.{Answer}
+use Rattle.s7_base.specs.declared.diagnostics.DiagCode.{DiagCode}
+use Rattle.s7_base.specs.declared.diagnostics.Area.{Area}
+use Rattle.s7_base.specs.declared.diagnostics.Area.TheVariants.{I, Q, M, Db, Timers, Counters, Registers}
+use Rattle.s7_base.specs.declared.blocks.BlockRef.{BlockRef}
+use Rattle.s7_base.specs.Blocks.{Program}
+use Rattle.mc_machine.specs.declared.areas.Memory.{Memory}
+use Rattle.mc_machine.specs.declared.places.Level.{Level}
+use Rattle.mc_machine.specs.declared.places.Mode.{Mode}
+use Rattle.mc_machine.specs.declared.places.Place.{Place}
+use Rattle.mc_machine.specs.declared.places.Place.TheVariants.{AtOutputs, AtInputs, AtCycle, Over, At}
+use Rattle.mc_machine.specs.declared.places.Frame.{Frame}
+use Rattle.mc_machine.specs.declared.places.Note.{Note}
+use Rattle.mc_machine.specs.Effect.{with_status}
+use Rattle.mc_machine.specs.Meaning.{State, End, Waits, Stopped, Rest, Move, Goes, Calls, Reaction, Again, Turn, Asks, Moves, Leaves, Ends, resume, body, takes, turn_of, never, std}
+
+-- where a machine is: its program, its place, the frames under it, what the statements see, the statements completed
+-- since the last answer, the moment of that answer, and the diagnostic entries that it keeps
+pub record Config : Type 0 where
+  pub program : Program
+  pub place : Place
+  pub frames : List Frame
+  pub memory : Memory
+  pub since : ℕ
+  pub at : ℕ
+  pub diag : List Note
+
+-- the newest 120 entries, which a machine keeps
+abbrev pub newest : List Note → List Note
+newest notes = drop (length notes - 120) notes
+
+abbrev pub with_newest : List Note → ℕ → Option DiagCode → List Note
+with_newest notes moment None = notes
+with_newest notes moment (Some code) = newest (notes ++ record { moment = moment; code = code } ∷ [])
+
+-- the state of the CPU, with all its diagnostic entries and the number of answers taken
+abbrev pub state_of : Config → List Note → ℕ → State
+state_of c notes taken = record { program = c.program; memory = c.memory; since = c.since; notes = notes; taken = taken }
+
+-- what is left of the frames: the last one first, and at last what follows them all
+abbrev pub rest_of : Rest → List Frame → Rest
+rest_of rest [] = rest
+rest_of rest (frame ∷ frames) = rest_of (resume body frame rest) frames
+
+-- what is left to do: the place, and then the frames
+abbrev pub todo : Config → List Note → ℕ → List Answer → End
+todo c notes taken given = body c.place (rest_of never c.frames) (state_of c notes taken) given
+
+-- the machine does with any further answers what the CPU does with them after the earlier ones
+pub record StandsFor (program : Program) (given : List Answer) (c : Config) : Type 0 where
+  pub notes : List Note
+  pub keeps_newest : c.diag ≡ newest notes
+  pub moment : c.at ≡ length given - 1
+  pub goes_on : (more : List Answer) → std program (given ++ more) ≡ todo c notes (length given) more
+
+-- the machine is where a move leads
+abbrev pub IsMoved : Move → Config → ℕ → ℕ → Option DiagCode → Config → Type 0
+IsMoved (Goes memory place) c since at note c' = c' ≡ record { program = c.program; place = place; frames = c.frames; memory = memory; since = since; at = at; diag = with_newest c.diag at note }
+IsMoved (Calls memory place frame) c since at note c' = c' ≡ record { program = c.program; place = place; frames = c.frames ++ frame ∷ []; memory = memory; since = since; at = at; diag = with_newest c.diag at note }
+
+-- the machine has taken an answer at this moment
+abbrev pub Reacts : Reaction → Config → ℕ → Config → Type 0
+Reacts (Again note move) c moment c' = IsMoved move c 0 moment note c'
+
+-- the machine has taken a turn, or asks
+abbrev pub Follows : Turn → Config → Option Request → Config → Type 0
+Follows (Asks request) c asked c' = (asked ≡ Some request) × (c' ≡ c)
+Follows (Moves move) c asked c' = (asked ≡ None) × IsMoved move c (c.since + 1) c.at None c'
+Follows Leaves c asked c' = (asked ≡ None) × (frame : Frame) × (c.frames ≡ c'.frames ++ frame ∷ []) × (c' ≡ record { program = c.program; place = frame.place; frames = c'.frames; memory = with_status c.memory frame.kept; since = c.since; at = c.at; diag = c.diag })
+Follows Ends c asked c' = ⊥
+
+-- how many frames may lie under a place that runs: a block has one under it, that of the cycle
+abbrev pub IsHigh : ℕ → Place → Type 0
+IsHigh n AtOutputs = n ≡ 0
+IsHigh n AtInputs = n ≡ 0
+IsHigh n AtCycle = n ≡ 0
+IsHigh n Over = ⊥
+IsHigh n (At block at level mode) = n ≡ 1
+
+-- each frame has as many under it as its place may have
+abbrev pub AreStacked : ℕ → List Frame → Type 0
+AreStacked n [] = Unit {0}
+AreStacked n (frame ∷ frames) = IsHigh n frame.place × AreStacked (suc n) frames
+
+pub record IsSound (c : Config) : Type 0 where
+  pub high : IsHigh (length c.frames) c.place
+  pub stacked : AreStacked 0 c.frames
+
+-- the place asks this request
+abbrev pub AsksAt : Config → Request → Type 0
+AsksAt c request = turn_of c.program c.since c.memory c.place ≡ Asks request
+
+-- at which places a request is asked
+abbrev pub IsAskedAt : Place → Ask → Type 0
+IsAskedAt place (asks.Outputs image) = place ≡ AtOutputs
+IsAskedAt place asks.Inputs = place ≡ AtInputs
+IsAskedAt place asks.Cycle = place ≡ AtCycle
+IsAskedAt place asks.Tick = (block : BlockRef) × (at : ℕ) × (level : Level) × (mode : Mode) × (place ≡ At block at level mode)
+IsAskedAt place (asks.ReadP addr width) = ⊥
+IsAskedAt place (asks.WriteP addr width value) = ⊥
+IsAskedAt place asks.Now = ⊥
+IsAskedAt place asks.Retrigger = ⊥
+IsAskedAt place (asks.Reply value) = ⊥
+IsAskedAt place (asks.Stop code) = ⊥
+
+-- what stood for a program and answers stands for them still
+abbrev pub Keeps : Config → Config → Type 0
+Keeps c c' = (program : Program) (given : List Answer) → StandsFor program given c → StandsFor program given c'
+
+-- a bound on the turns up to the next request
+abbrev pub turns_left : Config → ℕ
+turns_left c = 2 * (256 - c.since) + length c.frames
+
+-- a machine that runs: where it is, and the request at which it waits, once it was asked
+pub record Running : Type 0 where
+  pub config : Config
+  pub waits : Option Request
+
+-- what is always true of a machine that runs
+pub record IsValid (running : Running) : Type 0 where
+  pub sound : running.config.place ≢ Over → IsSound running.config
+  pub waits : IfSome running.waits (AsksAt running.config)
+
+-- the machine, as its users see it: idle, or running --
+
+abbrev pub IsIdle : Option Running → Type 0
+IsIdle machine = machine ≡ None
+
+-- it runs, and this holds of it
+abbrev pub OfRunning : Option Running → (Running → Type 0) → Type 0
+OfRunning None P = ⊥
+OfRunning (Some running) P = P running
+
+abbrev pub IsRunning : Option Running → Type 0
+IsRunning machine = OfRunning machine (λ running. Unit {0})
+
+-- it runs, and has not stopped
+abbrev pub CanAsk : Option Running → Type 0
+CanAsk machine = OfRunning machine (λ running. running.config.place ≢ Over)
+
+abbrev pub HasStopped : Option Running → Type 0
+HasStopped machine = OfRunning machine (λ running. running.config.place ≡ Over)
+
+-- it was asked, and waits at this request
+abbrev pub WaitsAt : Option Running → Request → Type 0
+WaitsAt machine request = OfRunning machine (λ running. running.waits ≡ Some request)
+
+-- it waits at a request to which it takes this answer
+abbrev pub IsTaken : Option Request → Answer → Type 0
+IsTaken None answer = ⊥
+IsTaken (Some request) answer = IsTrue (takes request answer)
+
+abbrev pub CanTake : Option Running → Answer → Type 0
+CanTake machine answer = OfRunning machine (λ running. IsTaken running.waits answer)
+
+-- it stands for a program and the answers taken
+abbrev pub Stands : Program → List Answer → Option Running → Type 0
+Stands program given machine = OfRunning machine (λ running. StandsFor program given running.config)
+
+-- what it shows of a CPU's state: what the statements see, and the newest diagnostic entries
+pub record Shows (running : Running) (state : State) : Type 0 where
+  pub memory : running.config.memory ≡ state.memory
+  pub diag : running.config.diag ≡ newest state.notes
+
+-- the CPU waits at this request after these answers, in a state that the machine shows
+abbrev pub CpuWaits : Program → List Answer → Request → Option Running → Type 0
+CpuWaits program given request machine =
+    OfRunning machine (λ running. (state : State) × (std program given ≡ Waits request state) × Shows running state)
+
+-- the CPU has stopped after these answers, in a state that the machine shows
+abbrev pub CpuStopped : Program → List Answer → Option Running → Type 0
+CpuStopped program given machine =
+    OfRunning machine (λ running. (state : State) × (std program given ≡ Stopped state) × Shows running state)
+
+-- the bytes of an area; no other area is there yet
+abbrev pub area_bytes : Memory → Area → List ℕ
+area_bytes memory I = memory.inputs
+area_bytes memory Q = memory.outputs
+area_bytes memory M = memory.flags
+area_bytes memory (Db number) = []
+area_bytes memory Timers = []
+area_bytes memory Counters = []
+area_bytes memory Registers = []
+
+-- the byte of an area at an address, if there is one
+abbrev pub byte_of : Option Running → Area → ℕ → Option ℕ
+byte_of None area at_byte = None
+byte_of (Some running) area at_byte = slice_get (area_bytes running.config.memory area) at_byte
+
+-- the diagnostic entry k of those kept, the oldest first
+abbrev pub note_of : Option Running → ℕ → Option Note
+note_of None k = None
+note_of (Some running) k = slice_get running.config.diag k

@@ -1,0 +1,150 @@
+//! The machine, whose inside its users do not see.
+ghost use Rattle.std.specs.Prelude.{◌≡◌, ℕ, ◌++◌, ◌∷◌, [], List, length, Option, Some, None, slice_get, false, IsTrue, OnOk, OnErr, ◌↔◌};
+ghost use Rattle.std.specs.Option.{option_map};
+ghost use Rattle.s7_base.specs.Blocks.{Program};
+ghost use Rattle.mc_machine.specs.Stands.{IsIdle, IsRunning, CanAsk, CanTake, HasStopped, WaitsAt, Stands, CpuWaits, CpuStopped, area_bytes, byte_of, note_of};
+
+use crate::engine::Engine;
+use crate::{Memory, Place};
+use s7_base::{Answer, Area, Blocks, DiagCode, NoMemory, Request};
+use std::alloc::Global;
+use std::marker::Model;
+
+/// A CPU: idle, or running a program from request to request. Only `load` takes memory.
+#[derive(Debug, Drop)]
+pub struct Machine {
+    engine: Option<Engine>,
+}
+
+impl Model for Machine {
+    ghost use Rattle.std.specs.Prelude.{Option, IfSome};
+    ghost use Rattle.std.specs.Option.{option_map};
+    ghost use Rattle.mc_machine.specs.Stands.{Running, IsValid};
+    ghost use Rattle.mc_machine.specs.EngineView.{running_of};
+
+    ghost Value = { Option Running };
+
+    ghost view = { λ m. option_map running_of m.engine };
+
+    ghost invariant = { λ m. IfSome m.engine (λ engine. IsValid (running_of engine)) };
+}
+
+impl Machine {
+    /// An idle machine.
+    pub fn new() -> Machine
+        ensures { IsIdle result }
+    {
+        Machine { engine: None }
+    }
+
+    /// Runs from the start of the CPU. At `Err` it is idle still.
+    pub fn load(&mut self, alloc: Global, blocks: &Blocks) -> Result<(), NoMemory>
+        requires { IsIdle self.old }
+        ensures ok { OnOk result (Stands blocks.now [] self.new) }
+        ensures going { OnOk result (CanAsk self.new) }
+        ensures err { OnErr result (self.new ≡ self.old) }
+    {
+        let program = blocks.copy(alloc)?;
+        self.engine = Some(Engine::start(program));
+        Ok(())
+    }
+
+    /// Whether the CPU has stopped.
+    pub fn stopped(&self) -> bool
+        requires { IsRunning self.now }
+        ensures answer { IsTrue result ↔ HasStopped self.now }
+        ensures going { result ≡ false → CanAsk self.now }
+        // then the CPU has stopped after the answers that were taken
+        ensures stops { HasStopped self.now → (program : Program) (given : List Answer) → Stands program given self.now → CpuStopped program given self.now }
+    {
+        match &self.engine {
+            Some(engine) => matches!(engine.place(), Place::Over),
+            None => false,
+        }
+    }
+
+    /// Runs to the next request. Asked again, it answers the same.
+    pub fn ask(&mut self) -> Request
+        requires { CanAsk self.old }
+        ensures waits { WaitsAt self.new result }
+        ensures same { (request : Request) → WaitsAt self.old request → (result ≡ request) × (self.new ≡ self.old) }
+        ensures going { CanAsk self.new }
+        // it stands for what it stood for
+        ensures stands { (program : Program) (given : List Answer) → Stands program given self.old → Stands program given self.new }
+        // and asks what the CPU asks after the answers that were taken, in the CPU's state
+        ensures next { (program : Program) (given : List Answer) → Stands program given self.old → CpuWaits program given result self.new }
+    {
+        let Some(engine) = &mut self.engine else {
+            unreachable!()
+        };
+        engine.ask()
+    }
+
+    /// Takes the answer to the request at which it waits; `moment` is the number of answers taken before.
+    pub fn take(&mut self, answer: &Answer, moment: u64)
+        requires { CanTake self.old answer.now }
+        ensures running { IsRunning self.new }
+        // it stands for the CPU after this answer too
+        ensures stands { (program : Program) (given : List Answer) → moment ≡ length given → Stands program given self.old
+            → Stands program (given ++ answer.now ∷ []) self.new }
+    {
+        if let Some(engine) = &mut self.engine {
+            engine.take(answer, moment);
+        }
+    }
+
+    /// The byte of an area. None exactly where there is no such area or byte.
+    pub fn image_byte(&self, area: Area, at_byte: u16) -> Option<u8>
+        requires { IsRunning self.now }
+        ensures { result ≡ byte_of self.now area at_byte }
+    {
+        match &self.engine {
+            Some(engine) => area_byte(engine.memory(), area, at_byte),
+            None => None,
+        }
+    }
+
+    /// The diagnostic entry k of those kept, the oldest first: its moment in milliseconds and its text. None
+    /// exactly where k is not below their number.
+    pub fn note_at(&self, k: u32) -> Option<(u64, DiagCode)>
+        requires { IsRunning self.now }
+        ensures { result ≡ option_map (λ note. (note.moment, note.code)) (note_of self.now k) }
+    {
+        match &self.engine {
+            Some(engine) => {
+                let note = engine.notes().get(k as usize)?;
+                Some((note.moment, note.code))
+            }
+            None => None,
+        }
+    }
+
+    /// The value of a counter. None counts yet, so it is 0.
+    pub fn counter_value(&self, _n: u8) -> u16
+        requires { IsRunning self.now }
+        ensures { result ≡ 0 }
+    {
+        0
+    }
+
+    /// The number of bytes of a data block. None is loaded yet.
+    pub fn block_length(&self, _n: u8) -> Option<u16>
+        requires { IsRunning self.now }
+        ensures { result ≡ None }
+    {
+        None
+    }
+}
+
+/// The byte of an area.
+fn area_byte(memory: &Memory, area: Area, at_byte: u16) -> Option<u8>
+    ensures { result ≡ slice_get (area_bytes memory.now area) at_byte }
+{
+    let at = at_byte as usize;
+    match area {
+        Area::I => memory.inputs.get(at).copied(),
+        Area::Q => memory.outputs.get(at).copied(),
+        Area::M => memory.flags.get(at).copied(),
+        Area::Db(_) | Area::Timers | Area::Counters | Area::Registers => None,
+    }
+}

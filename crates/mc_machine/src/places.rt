@@ -1,0 +1,47 @@
+//! Where a CPU stands.
+
+use crate::Status;
+use s7_base::{BlockRef, DiagCode};
+
+/// The level that a block runs on.
+#[derive(Clone, Copy, Debug, PartialEq, Eq)]
+pub struct Level {
+    pub priority: u8,
+}
+
+/// Whether a block comes to its statement anew, or makes again a request that was not ended.
+#[derive(Clone, Copy, Debug, PartialEq, Eq)]
+pub enum Mode {
+    Fresh,
+    Ticking,
+}
+
+/// Where a CPU stands.
+#[derive(Clone, Copy, Debug, PartialEq, Eq, Default)]
+pub enum Place {
+    /// At the start of a cycle, where it asks to put out the output image.
+    #[default]
+    AtOutputs,
+    /// Where it asks for the input image.
+    AtInputs,
+    /// At the end of a cycle.
+    AtCycle,
+    /// It has stopped.
+    Over,
+    /// At a statement of a block, counted from 0.
+    At(BlockRef, usize, Level, Mode),
+}
+
+/// Where a CPU goes on when a block ends, and the status bits that come back.
+#[derive(Clone, Copy, Debug, PartialEq, Eq, Default)]
+pub struct Frame {
+    pub place: Place,
+    pub kept: Status,
+}
+
+/// A diagnostic entry, with its moment in milliseconds.
+#[derive(Clone, Copy, Debug, PartialEq, Eq, Default)]
+pub struct Note {
+    pub moment: u64,
+    pub code: DiagCode,
+}
