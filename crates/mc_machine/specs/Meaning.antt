@@ -145,6 +145,12 @@ is_built _ = true
 abbrev pub takes : Request → Answer → Bool
 takes request answer = fits request answer && is_built answer
 
+-- the answer stops the CPU: it is stopped from outside, or its own request to stop is done
+abbrev pub stops_cpu : Ask → Answer → Bool
+stops_cpu ask (answers.CpuStop code) = true
+stops_cpu (asks.Stop code) answers.Done = true
+stops_cpu ask answer = false
+
 -- what an answer does at the place that asked
 abbrev pub answered : Memory → Place → Ask → Answer → Reaction
 answered memory place ask (answers.Lost side why) = Again (Some (lost_note side why)) (Goes memory (again place))

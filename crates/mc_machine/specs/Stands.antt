@@ -1,5 +1,5 @@
 -- What it means that a machine stands for a program and the answers that it has taken.
-use Rattle.std.specs.Prelude.{◌≡◌, ◌≢◌, ℕ, suc, ◌+◌, ◌-◌, ◌*◌, List, [], ◌∷◌, ◌++◌, length, drop, Option, Some, None, IfSome, IsTrue, slice_get}
+use Rattle.std.specs.Prelude.{◌≡◌, ◌≢◌, ℕ, suc, ◌+◌, ◌-◌, ◌*◌, false, List, [], ◌∷◌, ◌++◌, length, drop, Option, Some, None, IfSome, IsTrue, slice_get}
 use Rattle.std.specs.Option.{option_map}
 use Rattle.s7_base.specs.declared.entry.Ask.{Ask}
 use Rattle.s7_base.specs.declared.entry.Ask.TheVariants as asks
@@ -18,7 +18,7 @@ use Rattle.mc_machine.specs.declared.places.Place.TheVariants.{AtOutputs, AtInpu
 use Rattle.mc_machine.specs.declared.places.Frame.{Frame}
 use Rattle.mc_machine.specs.declared.places.Note.{Note}
 use Rattle.mc_machine.specs.Effect.{with_status}
-use Rattle.mc_machine.specs.Meaning.{State, End, Waits, Stopped, Rest, Move, Goes, Calls, Reaction, Again, Turn, Asks, Moves, Leaves, Ends, resume, body, takes, turn_of, never, std}
+use Rattle.mc_machine.specs.Meaning.{State, End, Waits, Stopped, Rest, Move, Goes, Calls, Reaction, Again, Turn, Asks, Moves, Leaves, Ends, resume, body, takes, stops_cpu, turn_of, never, std}
 
 -- where a machine is: its program, its place, the frames under it, what the statements see, the statements completed
 -- since the last answer, the moment of that answer, and the diagnostic entries that it keeps
@@ -109,6 +109,19 @@ IsAskedAt place asks.Retrigger = ⊥
 IsAskedAt place (asks.Reply value) = ⊥
 IsAskedAt place (asks.Stop code) = ⊥
 
+-- what is asked so far; direct access, timers, jobs and stops are not
+abbrev pub IsAsked : Ask → Type 0
+IsAsked (asks.Outputs image) = Unit {0}
+IsAsked asks.Inputs = Unit {0}
+IsAsked asks.Cycle = Unit {0}
+IsAsked asks.Tick = Unit {0}
+IsAsked (asks.ReadP addr width) = ⊥
+IsAsked (asks.WriteP addr width value) = ⊥
+IsAsked asks.Now = ⊥
+IsAsked asks.Retrigger = ⊥
+IsAsked (asks.Reply value) = ⊥
+IsAsked (asks.Stop code) = ⊥
+
 -- what stood for a program and answers stands for them still
 abbrev pub Keeps : Config → Config → Type 0
 Keeps c c' = (program : Program) (given : List Answer) → StandsFor program given c → StandsFor program given c'
@@ -155,6 +168,14 @@ WaitsAt machine request = OfRunning machine (λ running. running.waits ≡ Some 
 abbrev pub IsTaken : Option Request → Answer → Type 0
 IsTaken None answer = ⊥
 IsTaken (Some request) answer = IsTrue (takes request answer)
+
+-- it waits at a request that this answer does not make the end of the run
+abbrev pub GoesOn : Option Request → Answer → Type 0
+GoesOn None answer = ⊥
+GoesOn (Some request) answer = stops_cpu request.ask answer ≡ false
+
+abbrev pub CanGoOn : Option Running → Answer → Type 0
+CanGoOn machine answer = OfRunning machine (λ running. GoesOn running.waits answer)
 
 abbrev pub CanTake : Option Running → Answer → Type 0
 CanTake machine answer = OfRunning machine (λ running. IsTaken running.waits answer)

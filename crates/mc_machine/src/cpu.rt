@@ -2,7 +2,7 @@
 ghost use Rattle.std.specs.Prelude.{◌≡◌, ℕ, ◌++◌, ◌∷◌, [], List, length, Option, Some, None, slice_get, false, IsTrue, OnOk, OnErr, ◌↔◌};
 ghost use Rattle.std.specs.Option.{option_map};
 ghost use Rattle.s7_base.specs.Blocks.{Program};
-ghost use Rattle.mc_machine.specs.Stands.{IsIdle, IsRunning, CanAsk, CanTake, HasStopped, WaitsAt, Stands, CpuWaits, CpuStopped, area_bytes, byte_of, note_of};
+ghost use Rattle.mc_machine.specs.Stands.{IsIdle, IsRunning, CanAsk, CanTake, CanGoOn, IsAsked, HasStopped, WaitsAt, Stands, CpuWaits, CpuStopped, area_bytes, byte_of, note_of};
 
 use crate::engine::Engine;
 use crate::{Memory, Place};
@@ -69,6 +69,7 @@ impl Machine {
         ensures waits { WaitsAt self.new result }
         ensures same { (request : Request) → WaitsAt self.old request → (result ≡ request) × (self.new ≡ self.old) }
         ensures going { CanAsk self.new }
+        ensures asked { IsAsked result.ask }
         // it stands for what it stood for
         ensures stands { (program : Program) (given : List Answer) → Stands program given self.old → Stands program given self.new }
         // and asks what the CPU asks after the answers that were taken, in the CPU's state
@@ -84,6 +85,7 @@ impl Machine {
     pub fn take(&mut self, answer: &Answer, moment: u64)
         requires { CanTake self.old answer.now }
         ensures running { IsRunning self.new }
+        ensures going { CanGoOn self.old answer.now → CanAsk self.new }
         // it stands for the CPU after this answer too
         ensures stands { (program : Program) (given : List Answer) → moment ≡ length given → Stands program given self.old
             → Stands program (given ++ answer.now ∷ []) self.new }

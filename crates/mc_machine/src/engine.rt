@@ -1,10 +1,10 @@
 //! What a running machine holds: it runs from request to request.
-ghost use Rattle.std.specs.Prelude.{◌≡◌, ◌≢◌, ℕ, ◌+◌, ◌-◌, ◌<◌, ◌≤◌, ◌++◌, ◌∷◌, [], List, length, slice_get, IsTrue, IfSome, OnSome, ◌^◌, Option, Some, None};
+ghost use Rattle.std.specs.Prelude.{◌≡◌, ◌≢◌, ℕ, ◌+◌, ◌-◌, ◌<◌, ◌≤◌, ◌++◌, ◌∷◌, [], List, length, slice_get, IsTrue, IfSome, OnSome, ◌^◌, false, Option, Some, None};
 ghost use Rattle.s7_base.specs.Blocks.{Program};
 ghost use Rattle.s7_base.specs.declared.entry.Answer.{Answer};
 ghost use Rattle.s7_base.specs.declared.blocks.BlockRef.{BlockRef};
-ghost use Rattle.mc_machine.specs.Meaning.{statements_of, turn_of, runs, answered, takes, begins_main, main_block, level_of, cycle_frame, lost_note, again, resumed, Leaves, Waits, Stopped, std, request_of};
-ghost use Rattle.mc_machine.specs.Stands.{Running, state_of, newest, with_newest, StandsFor, IsMoved, Reacts, Follows, IsHigh, IsSound, IsValid, IsAskedAt, AsksAt, Keeps, IsTaken};
+ghost use Rattle.mc_machine.specs.Meaning.{statements_of, turn_of, runs, answered, takes, stops_cpu, begins_main, main_block, level_of, cycle_frame, lost_note, again, resumed, Leaves, Waits, Stopped, std, request_of};
+ghost use Rattle.mc_machine.specs.Stands.{Running, state_of, newest, with_newest, StandsFor, IsMoved, Reacts, Follows, IsHigh, IsSound, IsValid, IsAskedAt, AsksAt, Keeps, IsTaken, IsAsked, GoesOn};
 ghost use Rattle.mc_machine.specs.Effect.{effect_of};
 ghost use Rattle.mc_machine.specs.EngineView.{config_of, running_of};
 
@@ -114,6 +114,7 @@ impl Engine {
         ensures waits { (running_of self.new).waits ≡ Some result }
         ensures same { IfSome (running_of self.old).waits (λ request. (result ≡ request) × (self.new ≡ self.old)) }
         ensures going { (config_of self.new).place ≢ Place.Over }
+        ensures asked { IsAsked result.ask }
         ensures keeps { Keeps (config_of self.old) (config_of self.new) }
         // it asks what the CPU asks
         ensures next { (program : Program) (given : List Answer) → (stands : StandsFor program given (config_of self.new))
@@ -146,6 +147,7 @@ impl Engine {
         requires valid { IsValid (running_of self.old) }
         requires fits { IsTaken (running_of self.old).waits answer.now }
         ensures valid { IsValid (running_of self.new) }
+        ensures going { GoesOn (running_of self.old).waits answer.now → (config_of self.new).place ≢ Place.Over }
         // it stands for the CPU after this answer too
         ensures stands { (program : Program) (given : List Answer) → moment ≡ length given
             → StandsFor program given (config_of self.old) → StandsFor program (given ++ answer.now ∷ []) (config_of self.new) }
@@ -166,6 +168,7 @@ impl Engine {
         requires fresh { self.old.since ≡ 0 }
         ensures reacts { Reacts (answered self.old.memory self.old.place request.ask answer.now) (config_of self.old) self.old.at (config_of self.new) }
         ensures sound { self.new.place ≢ Place.Over → IsSound (config_of self.new) }
+        ensures going { stops_cpu request.ask answer.now ≡ false → self.new.place ≢ Place.Over }
         ensures waits { self.new.waits ≡ self.old.waits }
     {
         match (request.ask, answer) {
