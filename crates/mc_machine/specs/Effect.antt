@@ -1,5 +1,5 @@
 -- What each statement does to what the statements see.
-use Rattle.std.specs.Prelude.{◌≡◌, ℕ, ◌^◌, ◌/◌, ◌%◌, ◌-◌, ◌==◌, ◌&&◌, ◌||◌, Bool, true, false, not, List, Option, Some, None, if◌then◌else◌, slice_index, slice_set, bit_or, bit_and}
+use Rattle.std.specs.Prelude.{ℕ, ◌^◌, ◌/◌, ◌%◌, ◌-◌, ◌==◌, ◌&&◌, ◌||◌, Bool, true, false, not, List, Option, Some, None, if◌then◌else◌, slice_index, slice_set, bit_or, bit_and}
 use Rattle.s7_base.specs.declared.statement.Statement.{Statement}
 use Rattle.s7_base.specs.declared.instruction.BitOperation.{BitOperation}
 use Rattle.s7_base.specs.declared.instruction.BitOperation.TheVariants.{And, AndNot, Or, OrNot, Assign, Set, Reset}

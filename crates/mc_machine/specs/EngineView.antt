@@ -1,5 +1,4 @@
 -- What an engine is, apart from how it is stored.
-use Rattle.std.specs.Prelude.{Option}
 use Rattle.mc_machine.specs.declared.engine.Engine.{Engine}
 use Rattle.mc_machine.specs.Stands.{Config, Running}
 

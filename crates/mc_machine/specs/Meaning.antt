@@ -1,5 +1,5 @@
 -- The standard CPU: what a program means, by one recursion over places and answers.
-use Rattle.std.specs.Prelude.{ℕ, zero, suc, ◌+◌, ◌-◌, ◌*◌, Bool, true, false, not, nat_lt, if◌then◌else◌, ◌&&◌, List, [], ◌∷◌, ◌++◌, length, replicate, Option, Some, None, slice_get}
+use Rattle.std.specs.Prelude.{ℕ, zero, suc, ◌+◌, ◌-◌, ◌*◌, Bool, true, false, nat_lt, if◌then◌else◌, ◌&&◌, List, [], ◌∷◌, ◌++◌, length, replicate, Option, Some, None, slice_get}
 use Rattle.s7_base.specs.declared.statement.Statement.{Statement}
 use Rattle.s7_base.specs.declared.blocks.BlockRef.{BlockRef}
 use Rattle.s7_base.specs.declared.blocks.CodeKind.TheVariants.{Ob}
@@ -18,7 +18,6 @@ use Rattle.s7_base.specs.Fitting.{fits}
 use Rattle.s7_base.specs.Priorities.{priority_of}
 use Rattle.mc_machine.specs.declared.areas.Memory.{Memory}
 use Rattle.mc_machine.specs.declared.places.Level.{Level}
-use Rattle.mc_machine.specs.declared.places.Mode.{Mode}
 use Rattle.mc_machine.specs.declared.places.Mode.TheVariants.{Fresh, Ticking}
 use Rattle.mc_machine.specs.declared.places.Place.{Place}
 use Rattle.mc_machine.specs.declared.places.Place.TheVariants.{AtOutputs, AtInputs, AtCycle, Over, At}

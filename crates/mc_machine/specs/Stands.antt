@@ -1,6 +1,5 @@
 -- What it means that a machine stands for a program and the answers that it has taken.
 use Rattle.std.specs.Prelude.{◌≡◌, ◌≢◌, ℕ, suc, ◌+◌, ◌-◌, ◌*◌, false, List, [], ◌∷◌, ◌++◌, length, drop, Option, Some, None, IfSome, IsTrue, slice_get}
-use Rattle.std.specs.Option.{option_map}
 use Rattle.s7_base.specs.declared.entry.Ask.{Ask}
 use Rattle.s7_base.specs.declared.entry.Ask.TheVariants as asks
 use Rattle.s7_base.specs.declared.entry.Request.{Request}
@@ -214,7 +213,13 @@ abbrev pub byte_of : Option Running → Area → ℕ → Option ℕ
 byte_of None area at_byte = None
 byte_of (Some running) area at_byte = slice_get (area_bytes running.config.memory area) at_byte
 
--- the diagnostic entry k of those kept, the oldest first
-abbrev pub note_of : Option Running → ℕ → Option Note
-note_of None k = None
-note_of (Some running) k = slice_get running.config.diag k
+-- the areas have their sizes
+pub record HasSizes (memory : Memory) : Type 0 where
+  pub inputs : length memory.inputs ≡ 64
+  pub outputs : length memory.outputs ≡ 64
+  pub flags : length memory.flags ≡ 1024
+
+-- the diagnostic entries that are kept, the oldest first
+abbrev pub notes_of : Option Running → List Note
+notes_of None = []
+notes_of (Some running) = running.config.diag

@@ -2,7 +2,7 @@
 ghost use Rattle.std.specs.Prelude.{◌≡◌, ℕ, ◌++◌, ◌∷◌, [], List, length, Option, Some, None, slice_get, false, IsTrue, OnOk, OnErr, ◌↔◌};
 ghost use Rattle.std.specs.Option.{option_map};
 ghost use Rattle.s7_base.specs.Blocks.{Program};
-ghost use Rattle.mc_machine.specs.Stands.{IsIdle, IsRunning, CanAsk, CanTake, CanGoOn, IsAsked, HasStopped, WaitsAt, Stands, CpuWaits, CpuStopped, area_bytes, byte_of, note_of};
+ghost use Rattle.mc_machine.specs.Stands.{IsIdle, IsRunning, CanAsk, CanTake, CanGoOn, IsAsked, HasStopped, WaitsAt, Stands, CpuWaits, CpuStopped, area_bytes, OfRunning, HasSizes, byte_of, notes_of};
 
 use crate::engine::Engine;
 use crate::{Memory, Place};
@@ -98,7 +98,8 @@ impl Machine {
     /// The byte of an area. None exactly where there is no such area or byte.
     pub fn image_byte(&self, area: Area, at_byte: u16) -> Option<u8>
         requires { IsRunning self.now }
-        ensures { result ≡ byte_of self.now area at_byte }
+        ensures byte { result ≡ byte_of self.now area at_byte }
+        ensures sizes { OfRunning self.now (λ running. HasSizes running.config.memory) }
     {
         match &self.engine {
             Some(engine) => area_byte(engine.memory(), area, at_byte),
@@ -110,7 +111,7 @@ impl Machine {
     /// exactly where k is not below their number.
     pub fn note_at(&self, k: u32) -> Option<(u64, DiagCode)>
         requires { IsRunning self.now }
-        ensures { result ≡ option_map (λ note. (note.moment, note.code)) (note_of self.now k) }
+        ensures { result ≡ option_map (λ note. (note.moment, note.code)) (slice_get (notes_of self.now) k) }
     {
         match &self.engine {
             Some(engine) => {
@@ -118,6 +119,17 @@ impl Machine {
                 Some((note.moment, note.code))
             }
             None => None,
+        }
+    }
+
+    /// How many diagnostic entries are kept.
+    pub fn note_count(&self) -> u32
+        requires { IsRunning self.now }
+        ensures { result ≡ length (notes_of self.now) }
+    {
+        match &self.engine {
+            Some(engine) => engine.notes().len() as u32,
+            None => 0,
         }
     }
 
@@ -140,13 +152,17 @@ impl Machine {
 
 /// The byte of an area.
 fn area_byte(memory: &Memory, area: Area, at_byte: u16) -> Option<u8>
-    ensures { result ≡ slice_get (area_bytes memory.now area) at_byte }
+    ensures byte { result ≡ slice_get (area_bytes memory.now area) at_byte }
+    ensures sizes { HasSizes memory.now }
 {
+    let inputs: &[u8] = &memory.inputs;
+    let outputs: &[u8] = &memory.outputs;
+    let flags: &[u8] = &memory.flags;
     let at = at_byte as usize;
     match area {
-        Area::I => memory.inputs.get(at).copied(),
-        Area::Q => memory.outputs.get(at).copied(),
-        Area::M => memory.flags.get(at).copied(),
+        Area::I => inputs.get(at).copied(),
+        Area::Q => outputs.get(at).copied(),
+        Area::M => flags.get(at).copied(),
         Area::Db(_) | Area::Timers | Area::Counters | Area::Registers => None,
     }
 }

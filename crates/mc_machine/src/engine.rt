@@ -101,7 +101,8 @@ impl Engine {
     }
 
     pub fn notes(&self) -> &[Note]
-        ensures { result.now ≡ (config_of self.now).diag }
+        ensures list { result.now ≡ (config_of self.now).diag }
+        ensures few { length result.now ≤ 120 }
     {
         self.diag.as_slice()
     }

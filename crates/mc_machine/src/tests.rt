@@ -56,11 +56,30 @@ fn give(rt: &impl Abort, machine: &mut Machine, answer: Answer, moment: u64) -> 
     request.ask
 }
 
+/// Q 0, Q 63 and M 1023 after one cycle over this first input byte.
+fn after_cycle(
+    rt: &impl Abort,
+    alloc: Global,
+    program: &[Statement],
+    byte: u8,
+) -> Result<[Option<u8>; 3], Fail> {
+    let mut machine = machine_of(alloc, program)?;
+    let mut image = [0u8; 64];
+    image[0] = byte;
+    give(rt, &mut machine, Answer::Done, 0);
+    give(rt, &mut machine, Answer::Image(image), 1);
+    assert_eq!(rt; give(rt, &mut machine, Answer::Go, 2), Ask::Cycle);
+    Ok([
+        machine.image_byte(Area::Q, 0),
+        machine.image_byte(Area::Q, 63),
+        machine.image_byte(Area::M, 1023),
+    ])
+}
+
 #[test]
 fn bit_statements_act_by_their_rows(rt: HostRuntime) -> Result<(), Fail> {
     use BitArea::{I, M, Q};
     use BitOperation::{And, AndNot, Assign, Or, OrNot, Reset, Set};
-    let alloc = rt.alloc();
     let program = [
         bit(And, I, 0, 0),
         bit(And, I, 0, 1),
@@ -73,34 +92,17 @@ fn bit_statements_act_by_their_rows(rt: HostRuntime) -> Result<(), Fail> {
         bit(And, I, 0, 3),
         bit(Reset, M, 1023, 7),
     ];
-    // the input byte, and then Q 0, Q 63 and M 1023
     let rows: [(u8, [Option<u8>; 3]); 6] = [
         (0b0000, [Some(0), Some(128), Some(128)]),
         (0b0001, [Some(0), Some(0), Some(128)]),
-        (0b0011, [Some(1), Some(0), Some(128)]),
+        (0b0011, [Some(1), Some(0), Some(0)]),
         (0b0100, [Some(1), Some(128), Some(128)]),
         (0b1000, [Some(0), Some(128), Some(0)]),
         (0b1010, [Some(0), Some(128), Some(0)]),
     ];
-    let mut machine = machine_of(alloc, &program)?;
     for (byte, expected) in rows {
-        let mut image = [0u8; 64];
-        image[0] = byte;
-        give(&rt, &mut machine, Answer::Done, 0);
-        give(&rt, &mut machine, Answer::Image(image), 0);
-        assert_eq!(rt; give(&rt, &mut machine, Answer::Go, 0), Ask::Cycle);
-        let found = [
-            machine.image_byte(Area::Q, 0),
-            machine.image_byte(Area::Q, 63),
-            machine.image_byte(Area::M, 1023),
-        ];
-        assert_eq!(rt; found, expected);
+        assert_eq!(rt; after_cycle(&rt, rt.alloc(), &program, byte)?, expected);
     }
-    assert_eq!(rt; machine.image_byte(Area::I, 64), None);
-    assert_eq!(rt;
-        (machine.counter_value(0), machine.block_length(1)),
-        (0, None)
-    );
     Ok(())
 }
 
@@ -141,5 +143,10 @@ fn a_request_is_made_again_until_the_cpu_stops(rt: HostRuntime) -> Result<(), Fa
         assert_eq!(rt; machine.note_at(k as u32), *note);
     }
     assert_eq!(rt; machine.image_byte(Area::I, 63), Some(7));
+    assert_eq!(rt; machine.image_byte(Area::I, 64), None);
+    assert_eq!(rt;
+        (machine.counter_value(0), machine.block_length(1)),
+        (0, None)
+    );
     Ok(())
 }

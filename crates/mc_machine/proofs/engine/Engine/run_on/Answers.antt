@@ -1,5 +1,4 @@
 -- A turn keeps what the machine stands for.
-use Rattle.std.proofs.Common.{Some}
 use Rattle.mc_machine.specs.EngineView.{config_of}
 use Rattle.mc_machine.proofs.Keeps.{keeps_on}
 use Rattle.mc_machine.proofs.engine.Engine.run_on.Goals as goal
