@@ -1,5 +1,5 @@
 -- What it means that a machine stands for a program and the answers that it has taken.
-use Rattle.std.specs.Prelude.{◌≡◌, ◌≢◌, ℕ, suc, ◌+◌, ◌-◌, ◌*◌, false, List, [], ◌∷◌, ◌++◌, length, drop, Option, Some, None, IfSome, IsTrue, slice_get}
+use Rattle.std.specs.Prelude.{◌≡◌, ◌≢◌, ℕ, suc, ◌+◌, ◌-◌, ◌*◌, false, List, [], ◌∷◌, ◌++◌, length, drop, Option, Some, None, IfSome, IsTrue, is_some, slice_get}
 use Rattle.s7_base.specs.declared.entry.Ask.{Ask}
 use Rattle.s7_base.specs.declared.entry.Ask.TheVariants as asks
 use Rattle.s7_base.specs.declared.entry.Request.{Request}
@@ -150,7 +150,7 @@ OfRunning None P = ⊥
 OfRunning (Some running) P = P running
 
 abbrev pub IsRunning : Option Running → Type 0
-IsRunning machine = OfRunning machine (λ running. Unit {0})
+IsRunning machine = IsTrue (is_some machine)
 
 -- it runs, and has not stopped
 abbrev pub CanAsk : Option Running → Type 0

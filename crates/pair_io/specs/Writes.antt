@@ -20,3 +20,8 @@ pub record Writes {T E : Type 0} (old new : SinkState) (text : List ℕ) (result
   pub err : OnErr result (AppendsFront old.written new.written text)
   pub cause : Counts old.faults new.faults result
   pub kept : (more : ℕ) → old.takes (length text + more) → IsOk result × new.takes more
+
+-- the same, in the members of a sink
+abbrev pub Prints : {S T E : Type 0} → (S → Option (List ℕ)) → (S → ℕ) → (S → ℕ → Type 0) → S → S → List ℕ → Result T E → Type 0
+Prints written faults takes old new text result =
+    Writes (state_of (written old) (faults old) (takes old)) (state_of (written new) (faults new) (takes new)) text result

@@ -1,0 +1,32 @@
+-- What a call of `solo` answers, from what its play answers.
+use Rattle.std.proofs.Common.{Option, Some, None}
+use Rattle.s7_base.specs.Blocks.{Program}
+use Rattle.pair_top.specs.declared.faults.Fault.{Fault}
+use Rattle.pair_top.specs.declared.faults.Fault.TheVariants.{Usage, FileFault, TooLong, SourceFault, ScriptFault, SinkFault, NoMemory, Differs}
+use Rattle.pair_top.specs.Part.{Part, IsNew}
+use Rattle.pair_top.specs.Plan.{Plan}
+use Rattle.pair_top.specs.Reading.{File, IsAccepted, IsPlanned}
+use Rattle.pair_top.specs.Serving.{Written, Account, IsSoloOutcome, SoloServed}
+
+module _ (source script : File) (sink : Written) (account : Account) (a b : Part) (program : Program) (plan : Plan)
+    (accepted : IsAccepted source.content program) (planned : IsPlanned script.content plan) (new : IsNew b) where
+  pub served : (fault : Option Fault) → IsSoloOutcome program plan sink account a fault → SoloServed source script sink account a b fault
+  served None o = (
+    o.0,
+    record { program = program; plan = plan; accepted = accepted; planned = planned; alone = o.1; other = o.1.other b new.lives },
+    o.2,
+    o.3,
+  )
+  served (Some SinkFault) o = (
+    o.0,
+    record { program = program; plan = plan; accepted = accepted; planned = planned; alone = o.1; other = o.1.other b new.lives },
+    o.2,
+    o.3,
+  )
+  served (Some NoMemory) o = (tt, o)
+  served (Some Usage) o = absurd o
+  served (Some (FileFault which)) o = absurd o
+  served (Some (TooLong which)) o = absurd o
+  served (Some (SourceFault fault)) o = absurd o
+  served (Some (ScriptFault fault)) o = absurd o
+  served (Some (Differs line)) o = absurd o

@@ -1,0 +1,64 @@
+-- The program of placed instructions is well formed, and reading gives such instructions.
+use Rattle.std.proofs.Common.{◌≡◌, ℕ, ◌≤◌, List, length, Some, Err, refl, sym, ◌∙◌, arith}
+use Rattle.std.specs.Prelude.{All, IsSome, IsErrOf}
+use Rattle.std.proofs.lemmas.Bool.{le-leb}
+use Rattle.std.proofs.lemmas.List.{length-map}
+use Rattle.std.proofs.lemmas.List.Elements.{All-map, All-weaker}
+use Rattle.s7_base.specs.declared.instruction.BitOperation.{BitOperation}
+use Rattle.s7_base.specs.declared.instruction.BitOperation.TheVariants.{And, AndNot, Or, OrNot, Assign, Set, Reset}
+use Rattle.s7_base.specs.declared.instruction.BitArea.{BitArea}
+use Rattle.s7_base.specs.declared.instruction.BitArea.TheVariants.{I, Q, M}
+use Rattle.s7_base.specs.declared.instruction.BitInstruction.{BitInstruction}
+use Rattle.s7_base.specs.declared.instruction.Instruction.TheVariants.{Bit}
+use Rattle.s7_base.specs.Instruction.{operation_number, operation_of, area_number, area_of, instruction_of, bit_statement, IsPlaced}
+use Rattle.s7_base.specs.Blocks.{IsWellFormed}
+use Rattle.pair_top.specs.declared.read_error.ReadError.{ReadError}
+use Rattle.pair_top.specs.declared.read_error.ReadError.TheVariants.{Fault, NoMemory}
+use Rattle.pair_top.specs.Fields.{Gives}
+use Rattle.pair_top.specs.SourceText.{IsSource, main_program}
+use Rattle.pair_top.specs.SourceReading.{source_of}
+use Rattle.pair_top.proofs.Pieces.{some_is}
+use Rattle.pair_top.proofs.SourceLaws.{source_again}
+
+operation_again : (operation : BitOperation) → operation_of (operation_number operation) ≡ Some operation
+operation_again And = refl
+operation_again AndNot = refl
+operation_again Or = refl
+operation_again OrNot = refl
+operation_again Assign = refl
+operation_again Set = refl
+operation_again Reset = refl
+
+area_again : (area : BitArea) → area_of (area_number area) ≡ Some area
+area_again I = refl
+area_again Q = refl
+area_again M = refl
+
+stored_again : (i : BitInstruction) → IsPlaced i → instruction_of (bit_statement i) ≡ Some (Bit i)
+stored_again i placed =
+    rw (operation_again i.operation, area_again i.area, le-leb _ _ placed.bit, le-leb _ _ placed.at_byte) refl
+
+is_stored : (i : BitInstruction) → IsPlaced i → IsSome (instruction_of (bit_statement i))
+is_stored i placed = rw (stored_again i placed) refl
+
+pub main_is_well_formed : (is : List BitInstruction) → length is ≤ 256 → All IsPlaced is → IsWellFormed (main_program is)
+main_is_well_formed is few placed = record {
+  kind = refl;
+  number = refl;
+  temp = refl;
+  few = omega (arith, length-map is bit_statement);
+  each = All-map (λ s. IsSome (instruction_of s)) bit_statement is (All-weaker IsPlaced (λ i. IsSome (instruction_of (bit_statement i))) is_stored is placed);
+}
+
+-- where nothing was read from a source, memory ran out
+pub no_memory : {R : Type 0} (view : R → List BitInstruction) (bytes : List ℕ) (e : ReadError) (is : List BitInstruction)
+    → Gives view (Err e) (source_of bytes) → IsSource bytes is → e ≡ NoMemory
+no_memory view bytes Fault is given source = let read = source_again bytes is source in absurd cc
+no_memory view bytes NoMemory is given source = refl
+
+pub not_both : {V : Type 0} (e : ReadError) → e ≡ NoMemory → IsErrOf {T = V} (Err e) Fault → ⊥
+not_both e first second = cc
+
+-- what is read once is read again
+pub same_instructions : (bytes : List ℕ) (read is : List BitInstruction) → source_of bytes ≡ Some read → IsSource bytes is → read ≡ is
+same_instructions bytes read is found source = let again = source_again bytes is source in some_is read is (sym found ∙ again)

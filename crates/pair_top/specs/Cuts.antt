@@ -1,0 +1,50 @@
+-- Which side the script stops.
+use Rattle.std.specs.Prelude.{ℕ, Bool, true, false, nat_le, if◌then◌else◌, List, [], ◌∷◌}
+use Rattle.s7_base.specs.declared.entry.Side.{Side}
+use Rattle.pair_top.specs.declared.plan.Event.{Event}
+use Rattle.pair_top.specs.declared.plan.What.{What}
+use Rattle.pair_top.specs.declared.plan.What.TheVariants.{Input, Alarm, Job, Fail, Return, Suspect}
+use Rattle.pair_top.specs.Plan.{Plan}
+use Rattle.pair_top.specs.Sides.{same_side}
+
+-- what the lines of a side made of it: it is sound, or it has failed, or it has failed late
+pub data Soundness : Type 0 where
+  sound : Soundness
+  failed : Soundness
+  failed_late : Soundness
+
+-- what a line of the side makes of it; every other line leaves it
+abbrev pub by_line : What → Side → Soundness → Soundness
+by_line (Fail s late) side before = if same_side s side then (if late then failed_late else failed) else before
+by_line (Return s fresh) side before = if same_side s side then sound else before
+by_line (Input at_byte s value) side before = before
+by_line (Alarm ob info) side before = before
+by_line (Job job) side before = before
+by_line (Suspect s pass) side before = before
+
+-- by all lines that are not later than the moment, in their order
+abbrev pub soundness_from : Soundness → List Event → Side → ℕ → Soundness
+soundness_from before [] side moment = before
+soundness_from before (e ∷ es) side moment =
+    soundness_from (if nat_le e.moment moment then by_line e.what side before else before) es side moment
+
+abbrev pub soundness : Plan → Side → ℕ → Soundness
+soundness plan side moment = soundness_from sound plan.events side moment
+
+abbrev pub is_failed : Soundness → Bool
+is_failed sound = false
+is_failed failed = true
+is_failed failed_late = true
+
+abbrev pub is_failed_late : Soundness → Bool
+is_failed_late sound = false
+is_failed_late failed = false
+is_failed_late failed_late = true
+
+-- the side is cut: the last of its FAIL and RETURN lines that is not later is a FAIL line
+unfoldable pub is_cut : Plan → Side → ℕ → Bool
+is_cut plan side moment = is_failed (soundness plan side moment)
+
+-- that line is a FAIL LATE line
+unfoldable pub is_late : Plan → Side → ℕ → Bool
+is_late plan side moment = is_failed_late (soundness plan side moment)

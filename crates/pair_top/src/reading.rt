@@ -1,0 +1,78 @@
+//! Reads the files of a command.
+ghost use Rattle.std.specs.Prelude.{◌≡◌, ◌≤◌, length, ℕ, List, IfOk, IfErr, OnOk};
+ghost use Rattle.pair_top.specs.Plan.{IsPlan};
+ghost use Rattle.pair_top.specs.Reading.{file_of, WasRead, IsAccepted, IsPlanned, IsReadRefusal, IsSourceRefusal, IsScriptRefusal, CountsOnly};
+
+use crate::plan::Script;
+use crate::script_reader::read_script;
+use crate::source_reader::read_source;
+use crate::{Fault, LoadFault, ReadError, ScriptFault};
+use pair_io::{Files, FilesError};
+use s7_base::Blocks;
+use std::alloc::Global;
+
+/// The most bytes of a source or a script.
+pub const LIMIT: u64 = 1_048_576;
+
+/// The kind of a fault of a source or script of a form that is not played.
+const NOT_BUILT: u8 = 99;
+
+/// The bytes of a file, which has this number.
+fn read_file<F: Files>(
+    alloc: Global,
+    files: &mut F,
+    name: &[u8],
+    which: u8,
+) -> Result<Vec<u8>, Fault>
+    ensures read { IfOk result (λ bytes. WasRead (F.content files.old name.now) bytes.items) }
+    ensures refused { IfErr result (IsReadRefusal which (file_of (F.content files.old) (F.faults files.old) (F.faults files.new) name.now)) }
+    ensures stays { (other : List ℕ) → F.content files.new other ≡ F.content files.old other }
+    ensures counts { OnOk result ((other : List ℕ) → F.faults files.new other ≡ F.faults files.old other) }
+    ensures steady { IfErr result (λ fault. (other : List ℕ) → CountsOnly fault (file_of (F.content files.old) (F.faults files.old) (F.faults files.new) other)) }
+{
+    let mut bytes = Vec::new(alloc);
+    match files.read(name, LIMIT, &mut bytes) {
+        Ok(()) => Ok(bytes),
+        Err(FilesError::Failed) => Err(Fault::FileFault { which }),
+        Err(FilesError::TooLong) => Err(Fault::TooLong { which }),
+        Err(FilesError::NoMemory) => Err(Fault::NoMemory),
+    }
+}
+
+/// The blocks of the source of this name.
+pub fn read_blocks<F: Files>(alloc: Global, files: &mut F, name: &[u8]) -> Result<Blocks, Fault>
+    ensures read { IfOk result (IsAccepted (F.content files.old name.now)) }
+    ensures refused { IfErr result (IsSourceRefusal (file_of (F.content files.old) (F.faults files.old) (F.faults files.new) name.now)) }
+    ensures stays { (other : List ℕ) → F.content files.new other ≡ F.content files.old other }
+    ensures counts { OnOk result ((other : List ℕ) → F.faults files.new other ≡ F.faults files.old other) }
+    ensures steady { IfErr result (λ fault. (other : List ℕ) → CountsOnly fault (file_of (F.content files.old) (F.faults files.old) (F.faults files.new) other)) }
+{
+    let bytes = read_file(alloc, files, name, 0)?;
+    match read_source(alloc, &bytes) {
+        Ok(blocks) => Ok(blocks),
+        Err(ReadError::Fault) => Err(Fault::SourceFault(LoadFault {
+            kind: NOT_BUILT,
+            line: 0,
+        })),
+        Err(ReadError::NoMemory) => Err(Fault::NoMemory),
+    }
+}
+
+/// The plant script of this name.
+pub fn read_plant<F: Files>(alloc: Global, files: &mut F, name: &[u8]) -> Result<Script, Fault>
+    ensures read { IfOk result (IsPlanned (F.content files.old name.now)) }
+    ensures refused { IfErr result (IsScriptRefusal (file_of (F.content files.old) (F.faults files.old) (F.faults files.new) name.now)) }
+    ensures stays { (other : List ℕ) → F.content files.new other ≡ F.content files.old other }
+    ensures counts { OnOk result ((other : List ℕ) → F.faults files.new other ≡ F.faults files.old other) }
+    ensures steady { IfErr result (λ fault. (other : List ℕ) → CountsOnly fault (file_of (F.content files.old) (F.faults files.old) (F.faults files.new) other)) }
+{
+    let bytes = read_file(alloc, files, name, 1)?;
+    match read_script(alloc, &bytes) {
+        Ok(script) => Ok(script),
+        Err(ReadError::Fault) => Err(Fault::ScriptFault(ScriptFault {
+            kind: NOT_BUILT,
+            line: 0,
+        })),
+        Err(ReadError::NoMemory) => Err(Fault::NoMemory),
+    }
+}

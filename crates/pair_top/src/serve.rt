@@ -1,0 +1,209 @@
+//! The top call.
+ghost use Rattle.std.specs.Prelude.{◌≡◌, ◌≤◌, ◌<◌, ◌↔◌, ℕ, List, [], ◌∷◌, length, true, Some, None, IsNone, IsTrue, IfOk, IfErr, OnOk, OnErr};
+ghost use Rattle.s7_base.specs.Blocks.{Program};
+ghost use Rattle.mc_machine.specs.Stands.{CanAsk, IsRunning, Stands};
+ghost use Rattle.pair_io.specs.Bytes.{AppendsFront};
+ghost use Rattle.pair_io.specs.Causes.{Counts};
+ghost use Rattle.pair_top.specs.CpuTail.{tail_of};
+ghost use Rattle.pair_top.specs.Text.{text};
+ghost use Rattle.std.specs.Io.KnownBytes.{Appends};
+ghost use Rattle.pair_top.specs.Part.{IsNew, first_life};
+ghost use Rattle.pair_top.specs.Plan.{Plan, IsPlan};
+ghost use Rattle.pair_top.specs.Playing.{IsPlayedOut};
+ghost use Rattle.pair_top.specs.Reading.{file_of, IsAccepted, IsPlanned, IsSourceOf};
+ghost use Rattle.pair_top.specs.ScriptText.{IsScript};
+ghost use Rattle.pair_top.specs.Serving.{IsSoloRefusal, AreSteady, IsSoloOutcome, SoloServed, Served, account_of, written_in, IsHonest, IsDone, IsDue};
+ghost use Rattle.pair_top.specs.Statuses.{status_of};
+ghost use Rattle.pair_top.specs.Words.{command_of, words_of, solo};
+
+use crate::alone::play_alone;
+use crate::plan::Script;
+use crate::printer::print;
+use crate::reading::{read_blocks, read_plant};
+use crate::views::CpuView;
+use crate::words::{Command, command_from};
+use crate::writing::SinkFault;
+use crate::{Ended, Fault, Gate, Mode, Outcome, Record, Shown, Subsystem};
+use pair_io::{Files, Sink};
+use s7_base::{Blocks, NoMemory};
+use std::alloc::Global;
+
+/// Both files of a play.
+fn read_both<F: Files>(
+    alloc: Global,
+    source: &[u8],
+    script: &[u8],
+    files: &mut F,
+) -> Result<(Blocks, Script), Fault>
+    ensures source { IfOk result (λ both. IsAccepted (F.content files.old source.now) both.0) }
+    ensures script { IfOk result (λ both. IsPlanned (F.content files.old script.now) both.1) }
+    ensures refused { IfErr result (IsSoloRefusal
+        (file_of (F.content files.old) (F.faults files.old) (F.faults files.new) source.now)
+        (file_of (F.content files.old) (F.faults files.old) (F.faults files.new) script.now)) }
+    ensures counts { OnOk result ((other : List ℕ) → F.faults files.new other ≡ F.faults files.old other) }
+    ensures steady { IfErr result (λ fault. AreSteady (Some fault)
+        (file_of (F.content files.old) (F.faults files.old) (F.faults files.new) source.now)
+        (file_of (F.content files.old) (F.faults files.old) (F.faults files.new) script.now)) }
+{
+    let blocks = read_blocks(alloc, files, source)?;
+    let plant = read_plant(alloc, files, script)?;
+    Ok((blocks, plant))
+}
+
+/// Room for the run, and then side A at its start. At `Err` it is as before.
+fn open_alone(
+    alloc: Global,
+    blocks: &Blocks,
+    end: u32,
+    a: &mut Subsystem,
+) -> Result<(Record, Shown), NoMemory>
+    requires { IsNew a.old }
+    ensures record { IfOk result (λ room. room.0 ≡ record { entries = []; room = end }) }
+    ensures shown { IfOk result (λ room. room.1 ≡ record { list = []; room = end }) }
+    ensures lives { OnOk result (a.new.lives ≡ first_life ∷ []) }
+    ensures stands { OnOk result (Stands blocks.now [] a.new.machine) }
+    ensures going { OnOk result (CanAsk a.new.machine) }
+{
+    let record = Record::with_room(alloc, end)?;
+    let shown = Shown::with_room(alloc, end)?;
+    a.load(alloc, blocks)?;
+    Ok((record, shown))
+}
+
+/// Writes the text of a play that ended at the end of its record.
+fn print_alone<K: Sink>(
+    sink: &mut K,
+    a: &Subsystem,
+    record: &Record,
+    shown: &Shown,
+) -> Result<(), SinkFault>
+    requires { IsRunning a.now.machine }
+    ensures ok { OnOk result (Appends (K.written sink.old) (K.written sink.new)
+        (text Mode.Solo record.now.entries shown.now.list Ended.End (tail_of a.now.machine))) }
+    ensures err { OnErr result (AppendsFront (K.written sink.old) (K.written sink.new)
+        (text Mode.Solo record.now.entries shown.now.list Ended.End (tail_of a.now.machine))) }
+    ensures cause { Counts (K.faults sink.old) (K.faults sink.new) result }
+{
+    let view = CpuView::new(a.machine());
+    print(
+        sink,
+        Mode::Solo,
+        record.as_slice(),
+        shown.as_slice(),
+        Ended::End,
+        Some(&view),
+    )
+}
+
+/// Plays side A to the end of the record, and then up to its next request.
+fn play_to_end(script: &Script, a: &mut Subsystem, record: &mut Record, shown: &mut Shown)
+    requires form { IsPlan script.now }
+    requires going { CanAsk a.old.machine }
+    requires lives { a.old.lives ≡ first_life ∷ [] }
+    requires room { record.old ≡ record { entries = []; room = script.now.end } }
+    requires shown_room { shown.old ≡ record { list = []; room = script.now.end } }
+    ensures running { IsRunning a.new.machine }
+    ensures played { (program : Program) → Stands program [] a.old.machine
+        → IsPlayedOut program script.now record.new.entries shown.new.list a.new }
+{
+    play_alone(script, a, record, shown);
+    a.ask();
+}
+
+/// Plays side A alone, and writes the text.
+fn play_solo<K: Sink>(
+    alloc: Global,
+    blocks: &Blocks,
+    script: &Script,
+    sink: &mut K,
+    a: &mut Subsystem,
+) -> Outcome
+    requires { IsNew a.old }
+    ensures status { result.status ≡ status_of result.fault }
+    ensures played { IsSoloOutcome blocks.now script.now
+        (written_in (K.written sink.old) (K.written sink.new) (K.faults sink.old) (K.faults sink.new))
+        (account_of result.entries.entries result.shown.list result.ended) a.new result.fault }
+{
+    let (mut record, mut shown) = match open_alone(alloc, blocks, script.end(), a) {
+        Ok(room) => room,
+        Err(NoMemory) => return Outcome::refused(alloc, Fault::NoMemory),
+    };
+    play_to_end(script, a, &mut record, &mut shown);
+    match print_alone(sink, a, &record, &shown) {
+        Ok(()) => Outcome {
+            status: 0,
+            fault: None,
+            entries: record,
+            shown,
+            ended: Ended::End,
+        },
+        Err(_) => Outcome {
+            status: Fault::SinkFault.status(),
+            fault: Some(Fault::SinkFault),
+            entries: record,
+            shown,
+            ended: Ended::End,
+        },
+    }
+}
+
+/// `solo SOURCE SCRIPT`.
+fn serve_solo<F: Files, K: Sink>(
+    alloc: Global,
+    source: &[u8],
+    script: &[u8],
+    files: &mut F,
+    sink: &mut K,
+    a: &mut Subsystem,
+    b: &Subsystem,
+) -> Outcome
+    requires a { IsNew a.old }
+    requires b { IsNew b.now }
+    ensures status { result.status ≡ status_of result.fault }
+    ensures served { SoloServed
+        (file_of (F.content files.old) (F.faults files.old) (F.faults files.new) source.now)
+        (file_of (F.content files.old) (F.faults files.old) (F.faults files.new) script.now)
+        (written_in (K.written sink.old) (K.written sink.new) (K.faults sink.old) (K.faults sink.new))
+        (account_of result.entries.entries result.shown.list result.ended) a.new b.now result.fault }
+    ensures steady { AreSteady result.fault
+        (file_of (F.content files.old) (F.faults files.old) (F.faults files.new) source.now)
+        (file_of (F.content files.old) (F.faults files.old) (F.faults files.new) script.now) }
+{
+    let (blocks, plant) = match read_both(alloc, source, script, files) {
+        Ok(both) => both,
+        Err(fault) => return Outcome::refused(alloc, fault),
+    };
+    play_solo(alloc, &blocks, &plant, sink, a)
+}
+
+/// Does what the words say, on the caller's thread: `solo SOURCE SCRIPT` plays side A alone.
+///
+/// `a` and `b` are as `Subsystem::new` made them. Waits for nobody, and always returns.
+pub fn serve_alone<F: Files, K: Sink>(
+    alloc: Global,
+    words: &[Vec<u8>],
+    files: &mut F,
+    sink: &mut K,
+    a: &mut Subsystem,
+    b: &mut Subsystem,
+) -> Outcome
+    requires a { IsNew a.old }
+    requires b { IsNew b.old }
+    ensures status { result.status ≡ status_of result.fault }
+
+    // What the command answers and leaves: the play and its text, or the cause of the refusal.
+    ensures served { Served (command_of (words_of words.now))
+        (file_of (F.content files.old) (F.faults files.old) (F.faults files.new))
+        (written_in (K.written sink.old) (K.written sink.new) (K.faults sink.old) (K.faults sink.new))
+        (account_of result.entries.entries result.shown.list result.ended) a.new b.new result.fault }
+
+    // The words are refused exactly where they are no command.
+    ensures usage { (result.fault ≡ Some Fault.Usage) ↔ IsNone (command_of (words_of words.now)) }
+{
+    match command_from(words) {
+        None => Outcome::refused(alloc, Fault::Usage),
+        Some(Command::Solo { source, script }) => {
+            serve_solo(alloc, source, script, files, sink, a, b)
+        }
+    }
+}
