@@ -22,6 +22,7 @@ with_lines plan events = record plan { events = events }
 
 -- ---- the image by its bytes
 
+-- an image has 64 bytes, and each is that of the plan
 image_length : (plan : Plan) (moment : ℕ) → length (input_image plan moment) ≡ 64
 unfolding input_image
 image_length plan moment = length-map-range_with_len (image_byte plan moment) 0 64
@@ -30,10 +31,12 @@ image_at : (plan : Plan) (moment k : ℕ) → k < 64 → get_or (input_image pla
 unfolding input_image
 image_at plan moment k lt = get_or-map-range_with_len (image_byte plan moment) 0 64 k k 0 lt (omega arith)
 
+-- bytes that are those of the plan are its image
 by_bytes : (plan : Plan) (moment : ℕ) (bytes : List ℕ) → length bytes ≡ 64 → ((k : ℕ) → k < 64 → get_or bytes k 0 ≡ image_byte plan moment k) → bytes ≡ input_image plan moment
 unfolding input_image
 by_bytes plan moment bytes wide each = fill_by_all (image_byte plan moment) bytes 64 0 wide each
 
+-- plans with the same bytes have the same image
 same_bytes : (p q : Plan) (m n : ℕ) → ((k : ℕ) → image_byte p m k ≡ image_byte q n k) → input_image p m ≡ input_image q n
 same_bytes p q m n each = by_bytes q n (input_image p m) (image_length p m) (λ k lt. image_at p m k lt ∙ each k)
 
@@ -42,6 +45,7 @@ same_bytes p q m n each = by_bytes q n (input_image p m) (image_length p m) (λ 
 abbrev step : ℕ → ℕ → ℕ → Event → ℕ
 step at_byte moment before event = cond (nat_le event.moment moment) (value_after at_byte before event.what) before
 
+-- one event more
 value_more : (xs : List Event) (e : Event) (at_byte moment : ℕ) → value_by (xs ++ e ∷ []) at_byte moment ≡ step at_byte moment (value_by xs at_byte moment) e
 value_more xs e at_byte moment = fold-append (step at_byte moment) 0 xs (e ∷ [])
 
@@ -72,6 +76,7 @@ module_has (m ∷ []) at_byte are below =
     rw (are.input, low, high) refl
 module_has (m ∷ n ∷ ms) at_byte are below = absurd are
 
+-- a module has at most 64 bytes
 width_is_small : (modules : List Module) → AreModules modules → input_width modules ≤ 64
 width_is_small [] are = omega arith
 width_is_small (m ∷ []) are = are.few
@@ -121,6 +126,7 @@ module _ (plan : Plan) (moment : ℕ) (xs : List Event) (time number place value
   input_step : set bytes place value ≡ input_image (with_lines plan longer) moment
   input_step = by_bytes (with_lines plan longer) moment (set bytes place value) (length-set bytes place value ∙ wide) each_byte
 
+-- an event of a plan, applied to the image of those before it
 apply_step : (plan : Plan) (moment : ℕ) (xs : List Event) (time number : ℕ) (what : What) (bytes : List ℕ)
     → AreModules plan.modules → IsInputBelow (input_width plan.modules) what → time ≤ moment → bytes ≡ input_image (with_lines plan xs) moment
     → bytes_after bytes what ≡ input_image (with_lines plan (xs ++ record { moment = time; line = number; what = what } ∷ [])) moment
@@ -184,6 +190,7 @@ module _ (plan : Plan) (moment : ℕ) (are : AreModules plan.modules) where
             whole = is ∙ same_bytes (with_lines plan xs) plan moment moment (λ k. ap (λ (v : ℕ). cond (list_any (has_input k) plan.modules) v 0) (each k));
           })
 
+-- the events that are left do not fall either
 rising_drop : (floor n : ℕ) (xs : List Event) → Rising (λ (e : Event). e.moment) floor xs → (low : ℕ) × Rising (λ (e : Event). e.moment) low (drop n xs)
 rising_drop floor zero xs rising = (floor, rising)
 rising_drop floor (suc n) [] rising = (floor, tt)
@@ -199,6 +206,7 @@ later plan m n image le is =
           (λ k. ap (λ (v : ℕ). cond (list_any (has_input k) plan.modules) v 0) (value_of_both (take image.applied plan.events) k m n 0 le is.passed));
     }
 
+-- a run from an image that is not later
 pub run_shows : (plan : Plan) (earlier moment : ℕ) (old : Image) (bytes : List ℕ) (applied : ℕ) (events : List Event) (left : List ℕ × ℕ)
     → IsPlan plan → earlier ≤ moment → record { bytes = bytes; applied = applied } ≡ old → events ≡ plan.events
     → left ≡ run moment bytes applied (drop applied events) → IsImageOf plan earlier old → Left plan moment left

@@ -1,4 +1,5 @@
 pub mod Digits
+pub mod Due
 pub mod EntryLaws
 pub mod ImageLaws
 pub mod Images

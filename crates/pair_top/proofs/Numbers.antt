@@ -13,9 +13,11 @@ use Rattle.std.proofs.lemmas.Fmt.{decimal_digit, decimal_nonempty, digits_decima
 use Rattle.pair_top.specs.Fields.{StartsAsNumber, value_from, number_of}
 use Rattle.pair_top.proofs.Pieces.{chosen_some, Lacks, Lacks-digits}
 
+-- the value of digits is as std has it
 pub own : IsNumeralModel (λ ds. all_ascii_digits ds ≡ true) (value_from 0)
 own = numerals_by_fold _ (search rules) value_from (search rules)
 
+-- a number is written without plus and leading zeros
 pub decimal_starts : (n : ℕ) → n < 2 ^ 64 → StartsAsNumber (decimal n)
 decimal_starts n fits = elim (cases_eq n 0) [
   | inl is_zero ↦
@@ -38,10 +40,12 @@ found_by ds (Ok n) starts parsed = (
 )
 found_by ds (Err e) starts parsed = tt
 
+-- what was parsed is the number of the digits
 pub number_found : {E : Type 0} (ds : List ℕ) (r : Result ℕ E) → StartsAsNumber ds → ParsesUnsigned 32 10 ds r
     → IfSome (result_ok r) (λ n. (n < 2 ^ 32) × (ds ≡ decimal n))
 number_found ds r starts parsed = found_by ds r starts (parse_plain own 32 ds r parsed starts.1)
 
+-- the digits of a number are parsed
 pub number_only : {E : Type 0} (ds : List ℕ) (r : Result ℕ E) → ParsesUnsigned 32 10 ds r
     → (n : ℕ) → n < 2 ^ 32 → ds ≡ decimal n → result_ok r ≡ Some n
 number_only ds r parsed n fits is = ap result_ok (parse-decimal 32 n ds r fits (omega arith) is parsed)
@@ -54,6 +58,7 @@ number_again n fits =
     let below : nat_lt n (2 ^ 32) ≡ true = lt-ltb n (2 ^ 32) fits in
     rw (value, same, below) refl
 
+-- what is read is written so
 pub number_takes : (ds : List ℕ) (n : ℕ) → number_of ds ≡ Some n → (n < 2 ^ 32) × (ds ≡ decimal n)
 number_takes ds n e =
     let value = value_from 0 ds in
@@ -63,6 +68,7 @@ number_takes ds n e =
       sym ((bytes_eq-Decides (decimal value) ds).0 tests.0) ∙ ap decimal c.1,
     )
 
+-- both clauses together give the exact one
 pub number_is : (ds : List ℕ) (r : Option ℕ) → IfSome r (λ n. (n < 2 ^ 32) × (ds ≡ decimal n))
     → ((n : ℕ) → n < 2 ^ 32 → ds ≡ decimal n → r ≡ Some n) → r ≡ number_of ds
 number_is ds (Some n) found only = sym (ap number_of found.1 ∙ number_again n found.0)

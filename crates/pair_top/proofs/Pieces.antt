@@ -1,4 +1,5 @@
 -- A piece up to a byte, and the field that it spells.
+-- A lemma `.._takes` says that what was read is written so, and `.._again` that what is written so is read.
 use Rattle.std.proofs.Common.{◌≡◌, ◌⊎◌, ℕ, ◌<◌, Bool, true, false, cond, eqb, List, [], ◌∷◌, ◌++◌, Option, Some, None, refl, ◌∙◌, ap, subst, arith}
 use Rattle.std.specs.List.{find}
 use Rattle.std.specs.Option.{option_map}
@@ -52,6 +53,7 @@ Lacks-digits d (c ∷ cs) digits out =
     let one : all_ascii_digits (c ∷ []) ≡ true = rw parts.0 refl in
     (digit_is_not d c one out, Lacks-digits d cs parts.1 out)
 
+-- a piece that lacks the byte is split off before it
 pub split_again : (d : ℕ) (w rest : List ℕ) → Lacks d w → split_at d (w ++ d ∷ rest) ≡ Some (w, rest)
 split_again d [] rest lacks = grind (arith, nat_tests)
 split_again d (b ∷ w) rest lacks = rw (lacks.0, split_again d w rest lacks.1) refl
@@ -73,6 +75,7 @@ split_takes d (b ∷ bs) w rest e = by_test (λ v after is. split_takes d bs v a
         ap (λ (c : ℕ). c ∷ bs) (eqb-true b d is) ∙ ap (λ (q : List ℕ × List ℕ). q.0 ++ d ∷ q.1) same
     by_test deeper false is = there deeper (split_at d bs) refl (rw is at e)
 
+-- the same of a field
 pub field_again : {A : Type 0} (d : ℕ) (of : List ℕ → Option A) (w rest : List ℕ) (x : A) → of w ≡ Some x → Lacks d w → field d of (w ++ d ∷ rest) ≡ Some (x, rest)
 field_again d of w rest x is lacks = rw (split_again d w rest lacks, is) refl
 

@@ -1,4 +1,5 @@
 -- The two laws of a script: what is read is written so, and what is written so is read.
+-- A lemma `.._takes` says that what was read is written so, and `.._again` that what is written so is read.
 use Rattle.std.proofs.Common.{◌≡◌, inl, inr, ℕ, ◌+◌, ◌<◌, ◌≤◌, ◌≢◌, true, false, ◌&&◌, cond, eqb, eq-eqb, List, [], ◌∷◌, ◌++◌, length, Option, Some, None, refl, sym, ◌∙◌, ap, subst, arith, append_assoc}
 use Rattle.std.specs.Prelude.{codes, nat_le, All}
 use Rattle.std.specs.Fmt.{decimal}
@@ -58,6 +59,7 @@ width_again width some few =
       le-leb width 64 few,
     ) refl
 
+-- the END line is no MODULE line
 end_is_no_module : (end : ℕ) → width_spelled (end_text end) ≡ None
 unfolding width_spelled
 end_is_no_module end = refl
@@ -103,6 +105,7 @@ head_again width rest some few =
     ap (split_at 10) text ∙ split_again 10 (module_text width) rest (module_lacks_line width few) in
     rw (split, width_again width some few) refl
 
+-- where END is the first line, there is no module
 end_alone : (end : ℕ) → end ≤ 200000 → head_of (line (end_text end)) ≡ (0, line (end_text end))
 end_alone end most =
     let split : split_at 10 (line (end_text end)) ≡ Some (end_text end, []) = split_again 10 (end_text end) [] (end_lacks_line end (omega arith)) in
@@ -133,6 +136,7 @@ script_takes bytes plan e =
       meaning = same ∙ ap (λ (es : List Event). record { modules = modules_of head.0; events = es; end = a.0.1 }) taken.meaning;
     }
 
+-- without a module there is no INPUT line
 no_inputs : (width end : ℕ) (inputs : List InputLine) → width ≡ 0 → All (IsInputLine width end) inputs → inputs ≡ []
 no_inputs width end [] none fit = refl
 no_inputs width end (l ∷ ls) none fit =
@@ -180,6 +184,7 @@ script_again bytes plan is =
 
 -- ---- what holds of each plan
 
+-- the module has so many bytes
 width_of_modules : (width : ℕ) → input_width (modules_of width) ≡ width
 width_of_modules width = elim (cases_eq width 0) [
   | inl none ↦ rw none refl
@@ -196,22 +201,26 @@ are_modules width few = elim (cases_eq width 0) [
       rw test one
 ]
 
+-- each event sets a byte of the module
 events_below : (width end number : ℕ) (inputs : List InputLine) → All (IsInputLine width end) inputs → All (λ e. IsInputBelow width e.what) (events_of number inputs)
 events_below width end number [] fit = All-nil (λ e. IsInputBelow width e.what)
 events_below width end number (l ∷ ls) fit =
     All-cons (λ e. IsInputBelow width e.what) _ _ (All-head (IsInputLine width end) l ls fit).within
     (events_below width end (number + 1) ls (All-tail (IsInputLine width end) l ls fit))
 
+-- each event is before the end
 events_before : (width end number : ℕ) (inputs : List InputLine) → All (IsInputLine width end) inputs → All (λ e. e.moment < end) (events_of number inputs)
 events_before width end number [] fit = All-nil (λ e. e.moment < end)
 events_before width end number (l ∷ ls) fit =
     All-cons (λ e. e.moment < end) _ _ (All-head (IsInputLine width end) l ls fit).before_end
     (events_before width end (number + 1) ls (All-tail (IsInputLine width end) l ls fit))
 
+-- the moments of the events are those of the lines
 events_rise : (floor number : ℕ) (inputs : List InputLine) → Rising (λ (l : InputLine). l.moment) floor inputs → Rising (λ (e : Event). e.moment) floor (events_of number inputs)
 events_rise floor number [] rising = tt
 events_rise floor number (l ∷ ls) rising = (rising.0, events_rise l.moment (number + 1) ls rising.1)
 
+-- what such lines mean is a plan of the narrow form
 plan_of_lines : (lines : Lines) → AreLines lines → IsPlan (plan_of lines)
 plan_of_lines lines form = record {
   end_low = form.end_low;
@@ -223,5 +232,6 @@ plan_of_lines lines form = record {
       (events_rise 0 2 lines.inputs (all_rising (λ (l : InputLine). l.moment) lines.inputs form.rising));
 }
 
+-- what is read is a plan of the narrow form
 pub script_is_plan : (bytes : List ℕ) (plan : Plan) → script_spelled bytes ≡ Some plan → IsPlan plan
 script_is_plan bytes plan e = let is = script_takes bytes plan e in subst IsPlan (sym is.meaning) (plan_of_lines is.lines is.form)

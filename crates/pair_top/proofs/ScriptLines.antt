@@ -1,4 +1,5 @@
 -- The lines behind the MODULE line: what is read is written so, and what is written so is read.
+-- A lemma `.._takes` says that what was read is written so, and `.._again` that what is written so is read.
 use Rattle.std.proofs.Common.{◌≡◌, inl, ℕ, zero, suc, ◌+◌, ◌*◌, ◌^◌, ◌<◌, ◌≤◌, Bool, true, false, ◌&&◌, cond, eqb, List, [], ◌∷◌, ◌++◌, length, Option, Some, None, refl, sym, ◌∙◌, ap, subst, arith, append_assoc}
 use Rattle.std.specs.Prelude.{codes, nat_le, nat_lt, All, IsSome, unwrap_or}
 use Rattle.std.specs.List.{flat_map}
@@ -29,6 +30,7 @@ behind_takes word text rest e =
     let is : a.0.0 ≡ word = (bytes_eq-Decides a.0.0 word).0 b.0 in
     split_takes 32 text a.0.0 a.0.1 a.1 ∙ ap (λ (l : List ℕ). l ++ 32 ∷ a.0.1) is ∙ ap (λ (l : List ℕ). word ++ 32 ∷ l) b.1
 
+-- an option by its value
 value_of_some : (o : Option ℕ) → IsSome o → o ≡ Some (unwrap_or o 0)
 value_of_some None is = absurd cc
 value_of_some (Some x) is = refl
@@ -74,6 +76,7 @@ hex_takes (high ∷ low ∷ []) value e =
     }
 hex_takes (high ∷ low ∷ more ∷ others) value e = absurd cc
 
+-- a digit is no line feed
 digit_is_not_line : (d : ℕ) → IsSome (hex_digit d) → eqb d 10 ≡ false
 digit_is_not_line d is = by_test (eqb d 10) refl
   where
@@ -154,6 +157,7 @@ end_again : (end : ℕ) → end < 2 ^ 32 → end_spelled (end_text end) ≡ Some
 unfolding end_spelled
 end_again end fits = rw (number_again end fits) refl
 
+-- an INPUT line is no END line
 input_is_no_end : (l : InputLine) → end_spelled (input_text l) ≡ None
 unfolding end_spelled
 input_is_no_end l = refl
@@ -232,10 +236,12 @@ after_line n width number after l = elim l [
   | Input moment at_byte value ↦ option_map (λ r. (input_event number moment at_byte value ∷ r.0, r.1)) (events_at n width moment (number + 1) after)
 ]
 
+-- the value of a map that did not fail
 map_some : {A B : Type 0} (f : A → B) (o : Option A) (y : B) → option_map f o ≡ Some y → (x : A) × (o ≡ Some x) × (f x ≡ y)
 map_some f None y e = absurd cc
 map_some f (Some x) y e = (x, refl, some_is (f x) y e)
 
+-- one line before what is left
 by_line : (n width floor number : ℕ) (text after : List ℕ) (l : Line) (read : List Event × ℕ)
     → ((floor' number' : ℕ) (read' : List Event × ℕ) → events_at n width floor' number' after ≡ Some read' → Taken width floor' number' after read')
     → TakenLine width floor (eqb (length after) 0) text l → after_line n width number after l ≡ Some read → Taken width floor number (text ++ 10 ∷ after) read

@@ -6,7 +6,7 @@ use Rattle.pair_top.specs.declared.faults.Fault.TheVariants.{Usage, FileFault, T
 use Rattle.pair_top.specs.Part.{Part, IsNew}
 use Rattle.pair_top.specs.Plan.{Plan}
 use Rattle.pair_top.specs.Reading.{File, IsAccepted, IsPlanned}
-use Rattle.pair_top.specs.Serving.{Written, Account, IsSoloOutcome, SoloServed}
+use Rattle.pair_top.specs.Serving.{Written, Account, IsQuiet, IsSoloRefusal, IsSoloOutcome, SoloServed}
 
 module _ (source script : File) (sink : Written) (account : Account) (a b : Part) (program : Program) (plan : Plan)
     (accepted : IsAccepted source.content program) (planned : IsPlanned script.content plan) (new : IsNew b) where
@@ -30,3 +30,15 @@ module _ (source script : File) (sink : Written) (account : Account) (a b : Part
   served (Some (SourceFault fault)) o = absurd o
   served (Some (ScriptFault fault)) o = absurd o
   served (Some (Differs line)) o = absurd o
+
+-- a refusal with which nothing was played and nothing written
+pub refused : (source script : File) (sink : Written) (account : Account) (a b : Part) (fault : Fault)
+    → IsSoloRefusal source script fault → IsQuiet sink account → SoloServed source script sink account a b (Some fault)
+refused source script sink account a b Usage r quiet = absurd r
+refused source script sink account a b (FileFault which) r quiet = (r, quiet)
+refused source script sink account a b (TooLong which) r quiet = (r, quiet)
+refused source script sink account a b (SourceFault fault) r quiet = (r, quiet)
+refused source script sink account a b (ScriptFault fault) r quiet = (r, quiet)
+refused source script sink account a b SinkFault r quiet = absurd r
+refused source script sink account a b NoMemory r quiet = (r, quiet)
+refused source script sink account a b (Differs line) r quiet = absurd r

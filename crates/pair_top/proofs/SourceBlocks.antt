@@ -20,6 +20,7 @@ use Rattle.pair_top.specs.SourceReading.{source_of}
 use Rattle.pair_top.proofs.Pieces.{some_is}
 use Rattle.pair_top.proofs.SourceLaws.{source_again}
 
+-- the stored form of an instruction means it
 operation_again : (operation : BitOperation) → operation_of (operation_number operation) ≡ Some operation
 operation_again And = refl
 operation_again AndNot = refl
@@ -41,6 +42,7 @@ stored_again i placed =
 is_stored : (i : BitInstruction) → IsPlaced i → IsSome (instruction_of (bit_statement i))
 is_stored i placed = rw (stored_again i placed) refl
 
+-- so its program is well formed
 pub main_is_well_formed : (is : List BitInstruction) → length is ≤ 256 → All IsPlaced is → IsWellFormed (main_program is)
 main_is_well_formed is few placed = record {
   kind = refl;

@@ -1,4 +1,5 @@
 -- The two laws of a source: what is read is written so, and what is written so is read.
+-- A lemma `.._takes` says that what was read is written so, and `.._again` that what is written so is read.
 use Rattle.std.proofs.Common.{◌≡◌, inl, inr, ℕ, zero, suc, ◌^◌, ◌<◌, ◌≤◌, Bool, true, false, ◌&&◌, cond, eqb, List, [], ◌∷◌, ◌++◌, length, Option, Some, None, refl, sym, ◌∙◌, ap, subst, arith, append_assoc}
 use Rattle.std.specs.Prelude.{codes, nat_le, All}
 use Rattle.std.specs.List.{flat_map}
@@ -34,7 +35,7 @@ op_again Reset = refl
 op_takes : (w : List ℕ) (op : BitOperation) → operation_spelled w ≡ Some op → w ≡ operation_word op
 op_takes w op e = sym ((bytes_eq-Decides (operation_word op) w).0 (find_passes (λ o. bytes_eq (operation_word o) w) all_operations op e))
 
--- neither a blank nor a line feed
+-- no blank
 op_lacks_blank : (op : BitOperation) → Lacks 32 (operation_word op)
 op_lacks_blank And = (refl, tt)
 op_lacks_blank AndNot = (refl, (refl, tt))
@@ -44,6 +45,7 @@ op_lacks_blank Assign = (refl, tt)
 op_lacks_blank Set = (refl, tt)
 op_lacks_blank Reset = (refl, tt)
 
+-- no line feed
 op_lacks_line : (op : BitOperation) → Lacks 10 (operation_word op)
 op_lacks_line And = (refl, tt)
 op_lacks_line AndNot = (refl, (refl, tt))
@@ -53,6 +55,7 @@ op_lacks_line Assign = (refl, tt)
 op_lacks_line Set = (refl, tt)
 op_lacks_line Reset = (refl, tt)
 
+-- no instruction begins as the end
 op_not_end : (op : BitOperation) (rest : List ℕ) → bytes_eq (operation_word op ++ rest) (codes "END_ORGANIZATION_BLOCK") ≡ false
 op_not_end And rest = refl
 op_not_end AndNot rest = refl
@@ -80,6 +83,7 @@ area_lacks_line I = (refl, tt)
 area_lacks_line Q = (refl, tt)
 area_lacks_line M = (refl, tt)
 
+-- each area ends by byte 1,023
 last_byte_small : (area : BitArea) → last_byte area ≤ 1023
 last_byte_small I = omega arith
 last_byte_small Q = omega arith

@@ -35,6 +35,7 @@ width_spelled line = do
   width ← field 32 number_of third
   if bytes_eq width.1 (codes "SWITCHED") && nat_le 1 width.0 && nat_le width.0 64 then Some width.0 else None
 
+-- an INPUT line
 unfoldable pub input_spelled : List ℕ → Option Line
 input_spelled line = do
   first ← behind_word (codes "AT") line
@@ -44,12 +45,14 @@ input_spelled line = do
   value ← hex_byte at_byte.1
   Some (Input moment.0 at_byte.0 value)
 
+-- an END line
 unfoldable pub end_spelled : List ℕ → Option Line
 end_spelled line = do
   digits ← behind_word (codes "END") line
   end ← number_of digits
   Some (End end)
 
+-- the first that there is
 abbrev pub or_else : {A : Type 0} → Option A → Option A → Option A
 or_else None other = other
 or_else (Some x) other = Some x
@@ -83,6 +86,7 @@ head_of bytes = unwrap_or (do
   width ← width_spelled split.0
   Some (width, split.1)) (0, bytes)
 
+-- the plan of a whole script
 unfoldable pub script_spelled : List ℕ → Option Plan
 script_spelled bytes = do
   read ← events_at (length (head_of bytes).1) (head_of bytes).0 0 2 (head_of bytes).1

@@ -42,6 +42,7 @@ input_text l =
 abbrev pub end_text : ℕ → List ℕ
 end_text end = codes "END " ++ decimal end
 
+-- a text with its line feed
 abbrev pub line : List ℕ → List ℕ
 line text = text ++ 10 ∷ []
 
@@ -49,6 +50,7 @@ line text = text ++ 10 ∷ []
 abbrev pub head_text : ℕ → List ℕ
 head_text width = if width == 0 then [] else line (module_text width)
 
+-- the MODULE line, the INPUT lines and END
 abbrev pub script_text : Lines → List ℕ
 script_text lines =
     head_text lines.width ++ (flat_map (λ l. line (input_text l)) lines.inputs ++ line (end_text lines.end))
@@ -73,9 +75,11 @@ abbrev pub modules_of : ℕ → List Module
 modules_of width =
     if width == 0 then [] else record { line = 1; input = true; at_byte = 0; len = width; kind = Switched } ∷ []
 
+-- the value of what is a hexadecimal digit
 abbrev pub digit_value : ℕ → ℕ
 digit_value digit = unwrap_or (hex_digit digit) 0
 
+-- the event of an INPUT line of this number
 abbrev pub input_event : ℕ → ℕ → ℕ → ℕ → Event
 input_event line moment at_byte value = record { moment = moment; line = line; what = Input at_byte None value }
 

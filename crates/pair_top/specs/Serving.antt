@@ -1,5 +1,5 @@
 -- What a call of the program answers and leaves.
-use Rattle.std.specs.Prelude.{◌≡◌, ◌⊎◌, ℕ, zero, suc, ◌≤◌, true, List, [], length, Option, Some, None}
+use Rattle.std.specs.Prelude.{◌≡◌, ◌⊎◌, ℕ, zero, suc, ◌≤◌, ◌<◌, true, List, [], length, Option, Some, None}
 use Rattle.std.specs.Io.KnownBytes.{Appends}
 use Rattle.pair_io.specs.Bytes.{AppendsFront}
 use Rattle.pair_io.specs.Causes.{Rose}
@@ -20,6 +20,8 @@ use Rattle.pair_top.specs.Plan.{Plan}
 use Rattle.pair_top.specs.Part.{Part}
 use Rattle.pair_top.specs.Played.{IsRun, IsSideOf, answers_of}
 use Rattle.pair_top.specs.Reading.{File, file_of, IsSteady, HasFailed, IsTooLong, IsAccepted, IsPlanned, IsNoSource, IsNoScript, IsSourceOf, source_not_built, script_not_built}
+use Rattle.s7_base.specs.declared.instruction.BitInstruction.{BitInstruction}
+use Rattle.pair_top.specs.SourceText.{IsSource}
 use Rattle.pair_top.specs.ScriptText.{IsScript}
 use Rattle.pair_top.specs.CpuTail.{tail_of, tail_of_state}
 use Rattle.pair_top.specs.Text.{text}
@@ -133,22 +135,6 @@ Served (Some (solo source script)) file sink account a b fault =
 
 -- completeness --
 
--- The premises: files that tell their content, within the limit and accepted, and no fault of the files or the sink.
-pub record IsHonest (source script : File) (sink : Written) : Type 0 where
-  pub source_bytes : List ℕ
-  pub source_told : source.content ≡ Some source_bytes
-  pub source_fits : length source_bytes ≤ LIMIT
-  pub program : Program
-  pub accepted : IsSourceOf source_bytes program
-  pub script_bytes : List ℕ
-  pub script_told : script.content ≡ Some script_bytes
-  pub script_fits : length script_bytes ≤ LIMIT
-  pub plan : Plan
-  pub planned : IsScript script_bytes plan
-  pub source_reads : HasFailed source → ⊥
-  pub script_reads : HasFailed script → ⊥
-  pub sink_takes : Rose sink.before sink.now → ⊥
-
 -- done to its end, but for want of memory
 abbrev pub IsDone : Option Fault → Type 0
 IsDone None = Unit {0}
@@ -161,3 +147,55 @@ IsDue number due None = ⊥
 IsDue number due (Some NoMemory) = Unit {0}
 IsDue number due (Some (FileFault which)) = which ≤ number
 IsDue number due (Some fault) = fault ≡ due
+
+-- a file tells these bytes, within the limit
+pub record Tells (file : File) (bytes : List ℕ) : Type 0 where
+  pub told : file.content ≡ Some bytes
+  pub fits : length bytes ≤ LIMIT
+
+-- a file tells more bytes than the limit
+pub record TellsTooMuch (file : File) : Type 0 where
+  pub bytes : List ℕ
+  pub told : file.content ≡ Some bytes
+  pub long : LIMIT < length bytes
+
+-- a file tells a source
+pub record TellsSource (file : File) : Type 0 where
+  pub bytes : List ℕ
+  pub tells : Tells file bytes
+  pub program : Program
+  pub source : IsSourceOf bytes program
+
+-- a file tells bytes that are no source
+pub record TellsNoSource (file : File) : Type 0 where
+  pub bytes : List ℕ
+  pub tells : Tells file bytes
+  pub none : (instructions : List BitInstruction) → IsSource bytes instructions → ⊥
+
+-- a file tells a plant script
+pub record TellsScript (file : File) : Type 0 where
+  pub bytes : List ℕ
+  pub tells : Tells file bytes
+  pub plan : Plan
+  pub script : IsScript bytes plan
+
+-- a file tells bytes that are no plant script
+pub record TellsNoScript (file : File) : Type 0 where
+  pub bytes : List ℕ
+  pub tells : Tells file bytes
+  pub none : (plan : Plan) → IsScript bytes plan → ⊥
+
+-- Each refusal that is due comes, but for a file that fails before it, or want of memory; and where nothing is due and
+-- nothing outside fails, the command is done to its end, but for want of memory.
+pub record GivesWhatIsDue (source script : File) (sink : Written) (fault : Option Fault) : Type 0 where
+  pub long_source : TellsTooMuch source → IsDue 0 (TooLong 0) fault
+  pub no_source : TellsNoSource source → IsDue 0 (SourceFault source_not_built) fault
+  pub long_script : TellsSource source → TellsTooMuch script → IsDue 1 (TooLong 1) fault
+  pub no_script : TellsSource source → TellsNoScript script → IsDue 1 (ScriptFault script_not_built) fault
+  pub complete : TellsSource source → TellsScript script → (HasFailed source → ⊥) → (HasFailed script → ⊥)
+      → (Rose sink.before sink.now → ⊥) → IsDone fault
+
+-- what holds of a call of `solo`
+abbrev pub OfSolo : Option Order → (List ℕ → List ℕ → Type 0) → Type 0
+OfSolo None P = Unit {0}
+OfSolo (Some (solo source script)) P = P source script

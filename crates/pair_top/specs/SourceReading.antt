@@ -9,10 +9,11 @@ use Rattle.s7_base.specs.Instruction.{◌>>=◌, all_operations, all_areas, last
 use Rattle.pair_top.specs.Fields.{split_at, field, number_of}
 use Rattle.pair_top.specs.SourceText.{operation_word, area_word}
 
--- the operation and the area that a word spells
+-- the operation that a word spells
 abbrev pub operation_spelled : List ℕ → Option BitOperation
 operation_spelled word = find (λ operation. bytes_eq (operation_word operation) word) all_operations
 
+-- the area that a word spells
 abbrev pub area_spelled : List ℕ → Option BitArea
 area_spelled word = find (λ area. bytes_eq (area_word area) word) all_areas
 
@@ -36,6 +37,7 @@ instructions_at (suc n) text = do
     others ← instructions_at n line.1
     Some (first ∷ others))
 
+-- the instructions of a whole source
 unfoldable pub source_of : List ℕ → Option (List BitInstruction)
 source_of bytes = do
   head ← split_at 10 bytes

@@ -11,6 +11,7 @@ use Rattle.s7_base.specs.declared.blocks.CodeKind.TheVariants.{Ob}
 use Rattle.s7_base.specs.Instruction.{bit_statement, IsPlaced}
 use Rattle.s7_base.specs.Blocks.{Program}
 
+-- how an operation is written
 abbrev pub operation_word : BitOperation → List ℕ
 operation_word And = codes "A"
 operation_word AndNot = codes "AN"
@@ -20,6 +21,7 @@ operation_word Assign = codes "="
 operation_word Set = codes "S"
 operation_word Reset = codes "R"
 
+-- how an area is written
 abbrev pub area_word : BitArea → List ℕ
 area_word I = codes "I"
 area_word Q = codes "Q"
@@ -30,6 +32,7 @@ abbrev pub instruction_text : BitInstruction → List ℕ
 instruction_text i =
     operation_word i.operation ++ (codes " " ++ (area_word i.area ++ (codes " " ++ (decimal i.at_byte ++ (codes "." ++ (decimal i.bit ++ codes ";"))))))
 
+-- an instruction with its line feed
 abbrev pub instruction_line : BitInstruction → List ℕ
 instruction_line i = instruction_text i ++ 10 ∷ []
 

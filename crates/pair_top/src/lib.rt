@@ -32,6 +32,7 @@ pub use parts::{How, Life, Subsystem};
 pub use plan::{Event, Module, ModuleKind, Script, What};
 pub use read_error::ReadError;
 pub use reading::LIMIT;
+pub use serve::{s7h_top, serve_alone};
 pub use showings::Shown;
 
 #[cfg(test)]

@@ -1,3 +1,4 @@
+use crate::input_image::InputImage;
 use crate::script_reader::read_script;
 use crate::source_reader::read_source;
 use crate::*;
@@ -139,6 +140,31 @@ fn scripts_are_read_or_refused(rt: HostRuntime) -> Result<(), Fail> {
     for text in refused {
         assert!(rt; text.len() < 100);
         assert!(rt; matches!(read_script(alloc, text), Err(ReadError::Fault)));
+    }
+    Ok(())
+}
+
+#[test]
+fn an_image_follows_its_script(rt: HostRuntime) -> Result<(), Fail> {
+    let alloc = rt.alloc();
+    let text =
+        b"MODULE IN 0 2 SWITCHED\nAT 0 INPUT 1 10\nAT 2 INPUT 0 01\nAT 2 INPUT 0 02\nAT 4 INPUT 1 20\nEND 5\n";
+    let script = read_script(alloc, text)?;
+    let mut image = InputImage::new();
+    assert_eq!(rt; image.bytes(), [0; 64]);
+    let moments: [(u64, u8, u8); 5] = [
+        (0, 0, 0x10),
+        (1, 0, 0x10),
+        (2, 2, 0x10),
+        (2, 2, 0x10),
+        (9, 2, 0x20),
+    ];
+    for (moment, first, second) in moments {
+        image.advance(&script, moment);
+        let mut expected = [0; 64];
+        expected[0] = first;
+        expected[1] = second;
+        assert_eq!(rt; image.bytes(), expected);
     }
     Ok(())
 }

@@ -12,9 +12,10 @@ ghost use Rattle.pair_top.specs.Plan.{Plan, IsPlan};
 ghost use Rattle.pair_top.specs.Playing.{IsPlayedOut};
 ghost use Rattle.pair_top.specs.Reading.{file_of, IsAccepted, IsPlanned, IsSourceOf};
 ghost use Rattle.pair_top.specs.ScriptText.{IsScript};
-ghost use Rattle.pair_top.specs.Serving.{IsSoloRefusal, AreSteady, IsSoloOutcome, SoloServed, Served, account_of, written_in, IsHonest, IsDone, IsDue};
+ghost use Rattle.pair_top.specs.Serving.{IsSoloRefusal, AreSteady, IsSoloOutcome, SoloServed, Served, account_of, written_in, GivesWhatIsDue, OfSolo};
 ghost use Rattle.pair_top.specs.Statuses.{status_of};
-ghost use Rattle.pair_top.specs.Words.{command_of, words_of, solo};
+ghost use Rattle.pair_top.specs.Words.{command_of, words_of};
+ghost use Rattle.pair_top.specs.WordsView.{order_of};
 
 use crate::alone::play_alone;
 use crate::plan::Script;
@@ -27,6 +28,8 @@ use crate::{Ended, Fault, Gate, Mode, Outcome, Record, Shown, Subsystem};
 use pair_io::{Files, Sink};
 use s7_base::{Blocks, NoMemory};
 use std::alloc::Global;
+use std::sync::Wait;
+use std::thread::Threads;
 
 /// Both files of a play.
 fn read_both<F: Files>(
@@ -168,12 +171,42 @@ fn serve_solo<F: Files, K: Sink>(
     ensures steady { AreSteady result.fault
         (file_of (F.content files.old) (F.faults files.old) (F.faults files.new) source.now)
         (file_of (F.content files.old) (F.faults files.old) (F.faults files.new) script.now) }
+    ensures words { result.fault ≡ Some Fault.Usage → ⊥ }
+    ensures due { GivesWhatIsDue
+        (file_of (F.content files.old) (F.faults files.old) (F.faults files.new) source.now)
+        (file_of (F.content files.old) (F.faults files.old) (F.faults files.new) script.now)
+        (written_in (K.written sink.old) (K.written sink.new) (K.faults sink.old) (K.faults sink.new)) result.fault }
 {
     let (blocks, plant) = match read_both(alloc, source, script, files) {
         Ok(both) => both,
         Err(fault) => return Outcome::refused(alloc, fault),
     };
     play_solo(alloc, &blocks, &plant, sink, a)
+}
+
+/// Does what a command says.
+fn serve_command<F: Files, K: Sink>(
+    alloc: Global,
+    command: Command<'_>,
+    files: &mut F,
+    sink: &mut K,
+    a: &mut Subsystem,
+    b: &Subsystem,
+) -> Outcome
+    requires a { IsNew a.old }
+    requires b { IsNew b.now }
+    ensures status { result.status ≡ status_of result.fault }
+    ensures served { Served (Some (order_of command.entry))
+        (file_of (F.content files.old) (F.faults files.old) (F.faults files.new))
+        (written_in (K.written sink.old) (K.written sink.new) (K.faults sink.old) (K.faults sink.new))
+        (account_of result.entries.entries result.shown.list result.ended) a.new b.now result.fault }
+    ensures words { result.fault ≡ Some Fault.Usage → ⊥ }
+    ensures due { OfSolo (Some (order_of command.entry)) (λ source script. GivesWhatIsDue
+        (file_of (F.content files.old) (F.faults files.old) (F.faults files.new) source)
+        (file_of (F.content files.old) (F.faults files.old) (F.faults files.new) script)
+        (written_in (K.written sink.old) (K.written sink.new) (K.faults sink.old) (K.faults sink.new)) result.fault) }
+{
+    serve_solo(alloc, command.source, command.script, files, sink, a, b)
 }
 
 /// Does what the words say, on the caller's thread: `solo SOURCE SCRIPT` plays side A alone.
@@ -199,11 +232,50 @@ pub fn serve_alone<F: Files, K: Sink>(
 
     // The words are refused exactly where they are no command.
     ensures usage { (result.fault ≡ Some Fault.Usage) ↔ IsNone (command_of (words_of words.now)) }
+
+    // Each refusal that is due comes; where none is, the command is done to its end.
+    ensures due { OfSolo (command_of (words_of words.now)) (λ source script. GivesWhatIsDue
+        (file_of (F.content files.old) (F.faults files.old) (F.faults files.new) source)
+        (file_of (F.content files.old) (F.faults files.old) (F.faults files.new) script)
+        (written_in (K.written sink.old) (K.written sink.new) (K.faults sink.old) (K.faults sink.new)) result.fault) }
 {
     match command_from(words) {
         None => Outcome::refused(alloc, Fault::Usage),
-        Some(Command::Solo { source, script }) => {
-            serve_solo(alloc, source, script, files, sink, a, b)
-        }
+        Some(command) => serve_command(alloc, command, files, sink, a, b),
     }
+}
+
+/// Does what the words say, with the runtime's threads where a command needs them; none does yet.
+///
+/// `a` and `b` are as `Subsystem::new` made them.
+pub fn s7h_top<R: Threads + Wait + Sync, F: Files, K: Sink, G: Gate + Sync>(
+    _rt: &R,
+    alloc: Global,
+    words: &[Vec<u8>],
+    files: &mut F,
+    sink: &mut K,
+    a: &mut Subsystem,
+    b: &mut Subsystem,
+    _gate: &G,
+) -> Outcome
+    requires a { IsNew a.old }
+    requires b { IsNew b.old }
+    ensures status { result.status ≡ status_of result.fault }
+
+    // What the command answers and leaves: the play and its text, or the cause of the refusal.
+    ensures served { Served (command_of (words_of words.now))
+        (file_of (F.content files.old) (F.faults files.old) (F.faults files.new))
+        (written_in (K.written sink.old) (K.written sink.new) (K.faults sink.old) (K.faults sink.new))
+        (account_of result.entries.entries result.shown.list result.ended) a.new b.new result.fault }
+
+    // The words are refused exactly where they are no command.
+    ensures usage { (result.fault ≡ Some Fault.Usage) ↔ IsNone (command_of (words_of words.now)) }
+
+    // Each refusal that is due comes; where none is, the command is done to its end.
+    ensures due { OfSolo (command_of (words_of words.now)) (λ source script. GivesWhatIsDue
+        (file_of (F.content files.old) (F.faults files.old) (F.faults files.new) source)
+        (file_of (F.content files.old) (F.faults files.old) (F.faults files.new) script)
+        (written_in (K.written sink.old) (K.written sink.new) (K.faults sink.old) (K.faults sink.new)) result.fault) }
+{
+    serve_alone(alloc, words, files, sink, a, b)
 }
