@@ -1,0 +1,4 @@
+pub mod Status
+pub mod BitRows
+pub mod JumpRows
+pub mod NumberRows
