@@ -1,0 +1,4 @@
+pub mod Bytes
+pub mod Kind
+pub mod Rule
+pub mod State
