@@ -5,6 +5,7 @@ mod alone;
 mod endings;
 mod entries;
 mod entry_text;
+mod fault_text;
 mod faults;
 mod fields;
 mod gates;
