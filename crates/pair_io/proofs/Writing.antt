@@ -1,5 +1,5 @@
 -- Texts that are written one after another.
-use Rattle.std.proofs.Common.{◌≡◌, ℕ, ◌+◌, List, [], ◌++◌, length, Option, Some, None, Result, Ok, Err, refl, sym, ◌∙◌, subst, arith, zero-add, length-append}
+use Rattle.std.proofs.Common.{ℕ, ◌+◌, List, [], ◌++◌, length, Option, Some, None, Result, Ok, Err, refl, sym, ◌∙◌, ap, subst, zero-add, add_assoc, length-append}
 use Rattle.std.proofs.lemmas.List.{append-nil}
 use Rattle.std.specs.Io.KnownBytes.{Appends}
 use Rattle.pair_io.specs.Writes.{SinkState, Writes}
@@ -13,8 +13,7 @@ appends_nothing (Some bytes) = sym (append-nil bytes)
 -- a promise for two texts is one for the first, and then for the second
 promise_both : (P : ℕ → Type 0) (xs ys : List ℕ) (more : ℕ) → P (length (xs ++ ys) + more) → P (length xs + (length ys + more))
 promise_both P xs ys more =
-    let count : length (xs ++ ys) + more ≡ length xs + (length ys + more) = omega (arith, zero-add, length-append xs ys) in
-    subst P count
+    subst P (ap (λ (n : ℕ). n + more) (length-append xs ys) ∙ add_assoc (length xs) (length ys) more)
 
 -- nothing was written
 pub writes_nothing : {T E : Type 0} (a : SinkState) (x : T) → Writes {T = T} {E = E} a a [] (Ok x)

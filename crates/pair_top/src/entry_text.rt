@@ -5,7 +5,7 @@ ghost use Rattle.pair_top.specs.EntryText.{side_word, stop_word, lost_text, back
 use crate::line::Line;
 use s7_base::{Answer, Ask, Entry, Job, JobArea, Loss, Side, StopCode};
 
-/// At most 1 byte.
+/// Adds the letter of a side, at most 1 byte.
 pub fn push_side(line: &mut Line, side: Side)
     requires { length line.old ≤ 1000 }
     ensures text { line.new ≡ line.old ++ side_word side }
@@ -17,7 +17,7 @@ pub fn push_side(line: &mut Line, side: Side)
     }
 }
 
-/// At most 7 bytes.
+/// Adds the word of a stop code, at most 7 bytes.
 pub fn push_stop(line: &mut Line, code: StopCode)
     requires { length line.old ≤ 1000 }
     ensures text { line.new ≡ line.old ++ stop_word code }
@@ -35,7 +35,7 @@ pub fn push_stop(line: &mut Line, code: StopCode)
     }
 }
 
-/// At most 14 bytes.
+/// Adds that a side was lost, and why, at most 14 bytes.
 pub fn push_lost(line: &mut Line, side: Side, why: Loss)
     requires { length line.old ≤ 900 }
     ensures text { line.new ≡ line.old ++ lost_text side why }
@@ -49,7 +49,7 @@ pub fn push_lost(line: &mut Line, side: Side, why: Loss)
     }
 }
 
-/// At most 6 bytes.
+/// Adds that a side has come back, at most 6 bytes.
 pub fn push_back(line: &mut Line, side: Side)
     requires { length line.old ≤ 900 }
     ensures text { line.new ≡ line.old ++ back_text side }
@@ -59,7 +59,7 @@ pub fn push_back(line: &mut Line, side: Side)
     push_side(line, side);
 }
 
-/// At most 1 byte.
+/// Adds the letter of a width, at most 1 byte.
 fn push_width(line: &mut Line, width: u8)
     requires { length line.old ≤ 900 }
     ensures text { line.new ≡ line.old ++ width_letter width }
@@ -72,7 +72,7 @@ fn push_width(line: &mut Line, width: u8)
     }
 }
 
-/// At most 46 bytes.
+/// Adds where a job reads or writes, at most 46 bytes.
 #[tactic(auto, using(crate::proofs::Digits::twenty_digits, std::proofs::Common::append_assoc))]
 fn push_place(line: &mut Line, area: JobArea, width: u8, at_byte: u16)
     requires { length line.old ≤ 800 }
@@ -97,7 +97,7 @@ fn push_place(line: &mut Line, area: JobArea, width: u8, at_byte: u16)
     }
 }
 
-/// At most 600 bytes.
+/// Adds a job as a script writes it, at most 600 bytes.
 #[tactic(auto, using(std::proofs::Common::append_assoc))]
 fn push_job(line: &mut Line, job: &Job)
     requires { length line.old ≤ 750 }
@@ -115,7 +115,7 @@ fn push_job(line: &mut Line, job: &Job)
     push_place(line, job.area, job.width, job.at_byte);
 }
 
-/// At most 17 bytes.
+/// Adds the reply to a job, at most 17 bytes.
 fn push_reply(line: &mut Line, value: Option<u32>)
     requires { length line.old ≤ 100 }
     ensures text { line.new ≡ line.old ++ reply_text value }
@@ -130,7 +130,7 @@ fn push_reply(line: &mut Line, value: Option<u32>)
     }
 }
 
-/// At most 600 bytes.
+/// Adds a request, at most 600 bytes.
 #[tactic(auto, using(crate::proofs::Digits::twenty_digits, std::proofs::Common::append_assoc))]
 fn push_ask(line: &mut Line, ask: &Ask)
     requires { length line.old ≤ 100 }
@@ -169,7 +169,7 @@ fn push_ask(line: &mut Line, ask: &Ask)
     }
 }
 
-/// At most 600 bytes.
+/// Adds an answer, at most 600 bytes.
 #[tactic(auto, using(crate::proofs::Digits::twenty_digits, std::proofs::Common::append_assoc))]
 fn push_answer(line: &mut Line, answer: &Answer)
     requires { length line.old ≤ 750 }
@@ -209,7 +209,7 @@ fn push_answer(line: &mut Line, answer: &Answer)
     }
 }
 
-/// The line of entry k.
+/// Begins the line anew with that of entry k.
 #[tactic(auto, using(crate::proofs::Digits::twenty_digits, std::proofs::Common::append_assoc))]
 pub fn put_entry(line: &mut Line, k: u64, entry: &Entry)
     ensures { line.new ≡ entry_line k entry.now }
