@@ -37,3 +37,5 @@ pub use showings::Shown;
 
 #[cfg(test)]
 mod reader_tests;
+#[cfg(test)]
+mod tests;
