@@ -39,3 +39,5 @@ pub use showings::Shown;
 mod reader_tests;
 #[cfg(test)]
 mod tests;
+#[cfg(test)]
+mod text_tests;

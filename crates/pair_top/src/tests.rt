@@ -264,3 +264,24 @@ fn a_failing_sink_keeps_the_play(rt: HostRuntime) -> Result<(), Fail> {
     }
     Ok(())
 }
+
+/// To be run with each allocation failing in turn: the play is whole, or nothing was played and nothing written. Where
+/// memory runs out before the call the test ends in an error.
+#[test]
+fn a_play_over_little_memory(rt: HostRuntime) -> Result<(), Fail> {
+    let alloc = rt.alloc();
+    let mut sink = MemSink::new(alloc, 1000, Vec::new(alloc))?;
+    let left = played(alloc, SCRIPT, &mut sink)?;
+    if left.outcome.fault.is_none() {
+        assert_eq!(rt; left.outcome.entries.len(), 12);
+        assert_eq!(rt; sink.written(), TEXT);
+        return Ok(());
+    }
+    assert_eq!(rt; left.outcome.fault, Some(Fault::NoMemory));
+    assert_eq!(rt; left.outcome.status, 8);
+    assert!(rt; left.outcome.entries.is_empty());
+    assert!(rt; left.outcome.shown.as_slice().is_empty());
+    assert_eq!(rt; left.outcome.ended, Ended::NotPlayed);
+    assert!(rt; sink.written().is_empty());
+    Ok(())
+}
