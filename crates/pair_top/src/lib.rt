@@ -38,3 +38,7 @@ pub use showings::Shown;
 
 #[cfg(test)]
 mod reader_tests;
+#[cfg(test)]
+mod tests;
+#[cfg(test)]
+mod text_tests;
