@@ -1,11 +1,10 @@
 -- A play of one side alone that has come to its end.
-use Rattle.std.proofs.Common.{◌≡◌, ℕ, ◌+◌, ◌≤◌, true, false, List, [], ◌∷◌, ◌++◌, length, take, Option, Some, None, refl, sym, ap, ◌∙◌, subst, arith, inl}
+use Rattle.std.proofs.Common.{◌≡◌, ℕ, ◌+◌, true, false, List, [], ◌∷◌, ◌++◌, length, take, Option, Some, None, refl, sym, ap, ◌∙◌, subst, arith, inl}
 use Rattle.std.proofs.lemmas.List.{length-map}
 use Rattle.std.proofs.Math.Seq.{take-length}
 use Rattle.s7_base.specs.declared.entry.Side.{Side}
 use Rattle.s7_base.specs.declared.entry.Side.TheVariants.{A, B}
 use Rattle.s7_base.specs.declared.entry.Request.{Request}
-use Rattle.s7_base.specs.declared.entry.Answer.{Answer}
 use Rattle.s7_base.specs.declared.entry.Entry.{Entry}
 use Rattle.s7_base.specs.Blocks.{Program}
 use Rattle.mc_machine.specs.Meaning.{State}
@@ -13,14 +12,12 @@ use Rattle.mc_machine.specs.Stands.{Running, Shows, Stands, CpuWaits}
 use Rattle.pair_top.specs.declared.endings.Ended.TheVariants.{End}
 use Rattle.pair_top.specs.declared.parts.Life.{Life}
 use Rattle.pair_top.specs.CpuTail.{noted, tail_of, tail_of_state}
-use Rattle.pair_top.specs.Tail.{Tail}
 use Rattle.pair_top.specs.Part.{Part, first_life}
 use Rattle.pair_top.specs.Plan.{Plan}
-use Rattle.pair_top.specs.Sides.{Standing, first_standing, standing, runs}
-use Rattle.pair_top.specs.Lives.{Stretch, with_run, change_of, keeps, closing, ends_by, began_after, stretches_from, stretches, AreLives, AreLivesOf, IsLife, place_of}
+use Rattle.pair_top.specs.Sides.{runs}
+use Rattle.pair_top.specs.Lives.{with_run, closing, ends_by, began_after, stretches_from, stretches, AreLives, AreLivesOf, IsLife, place_of}
 use Rattle.pair_top.specs.Played.{IsSideOf, answers_of}
 use Rattle.pair_top.specs.Playing.{AreCalm, IsPlaying, IsPlayedOut}
-use Rattle.pair_top.specs.Serving.{IsAlonePlay, account_of}
 
 -- where no entry changes who runs, a side has the stretch in which it is, or none
 calm_stretches : (began : Option ℕ) (k : ℕ) (es : List Entry) (side : Side) → AreCalm es → stretches_from began k es side ≡ closing began with_run

@@ -1,26 +1,24 @@
 -- A play of one side alone goes on by one entry.
-use Rattle.std.proofs.Common.{◌≡◌, ℕ, ◌+◌, ◌<◌, Bool, true, false, List, [], ◌∷◌, ◌++◌, length, Option, Some, None, refl, sym, ap, ◌∙◌, subst, arith, zero-add, length-append}
+use Rattle.std.proofs.Common.{◌≡◌, ℕ, ◌+◌, ◌<◌, true, false, List, [], ◌∷◌, ◌++◌, length, Option, Some, None, refl, sym, ap, ◌∙◌, subst, arith, length-append}
 use Rattle.std.specs.Prelude.{if◌then◌else◌, not, ◌||◌}
 use Rattle.s7_base.specs.declared.entry.Side.{Side}
-use Rattle.s7_base.specs.declared.entry.Side.TheVariants.{A, B}
+use Rattle.s7_base.specs.declared.entry.Side.TheVariants.{A}
 use Rattle.s7_base.specs.declared.entry.Ask.{Ask}
 use Rattle.s7_base.specs.declared.entry.Ask.TheVariants as asks
 use Rattle.s7_base.specs.declared.entry.Request.{Request}
 use Rattle.s7_base.specs.declared.entry.Answer.{Answer}
-use Rattle.s7_base.specs.declared.entry.Answer.TheVariants as answers
 use Rattle.s7_base.specs.declared.entry.Entry.{Entry}
 use Rattle.s7_base.specs.Blocks.{Program}
 use Rattle.mc_machine.specs.Meaning.{std, next_of, asked, stops_cpu}
 use Rattle.mc_machine.specs.Stands.{Running, Stands, IsAsked}
 use Rattle.mc_machine.proofs.Asked.{asked_push}
 use Rattle.pair_top.specs.Plan.{Plan, IsPlan}
-use Rattle.pair_top.specs.InputImage.{input_image}
-use Rattle.pair_top.specs.Cuts.{is_cut, is_late}
+use Rattle.pair_top.specs.Cuts.{is_late}
 use Rattle.pair_top.specs.Sides.{Standing, first_standing, standing, after_answer, after}
 use Rattle.pair_top.specs.Lawful.{IsPlainAnswer, MayStand}
 use Rattle.pair_top.specs.Showings.{is_output_of, is_output, showers_by, tagged, showings_of, shown_of}
 use Rattle.pair_top.specs.Stops.{stop_by}
-use Rattle.pair_top.specs.Played.{requests_of, answers_of}
+use Rattle.pair_top.specs.Played.{answers_of}
 use Rattle.pair_top.specs.Lives.{change_of, keeps}
 use Rattle.pair_top.specs.Playing.{IsPlaying, AreCalm}
 use Rattle.pair_top.proofs.Snoc.{standing_snoc, shown_snoc, stop_snoc, lawful_snoc, answers_snoc, requests_snoc}

@@ -1,5 +1,5 @@
 -- A script without FAIL lines cuts no side.
-use Rattle.std.proofs.Common.{◌≡◌, ℕ, false, nat_le, List, [], ◌∷◌, Some, None, refl, sym, ap, ◌∙◌}
+use Rattle.std.proofs.Common.{◌≡◌, ℕ, false, nat_le, List, [], ◌∷◌, refl, ap, ◌∙◌}
 use Rattle.std.specs.Prelude.{All, if◌then◌else◌}
 use Rattle.std.proofs.lemmas.Bool.{cond_both}
 use Rattle.std.proofs.lemmas.List.Elements.{All-head, All-tail}
@@ -8,7 +8,7 @@ use Rattle.pair_top.specs.declared.plan.Event.{Event}
 use Rattle.pair_top.specs.declared.plan.What.{What}
 use Rattle.pair_top.specs.declared.plan.What.TheVariants.{Input, Alarm, Job, Fail, Return, Suspect}
 use Rattle.pair_top.specs.Plan.{Plan, IsPlan, IsInputBelow, input_width}
-use Rattle.pair_top.specs.Cuts.{Soundness, sound, by_line, soundness_from, soundness, is_failed, is_cut}
+use Rattle.pair_top.specs.Cuts.{Soundness, sound, by_line, soundness_from, is_failed, is_cut}
 
 -- an INPUT line says nothing of a side
 inputs_keep : (width : ℕ) (what : What) (side : Side) (before : Soundness) → IsInputBelow width what → by_line what side before ≡ before

@@ -1,5 +1,5 @@
 -- What contracts see of a subsystem, of a record and of a list of showings.
-use Rattle.std.specs.Prelude.{◌≡◌, ℕ, ◌+◌, List, [], ◌∷◌, ◌++◌, Option, None}
+use Rattle.std.specs.Prelude.{◌≡◌, ℕ, ◌+◌, List, [], ◌∷◌, ◌++◌, Option}
 use Rattle.s7_base.specs.declared.entry.Side.{Side}
 use Rattle.s7_base.specs.declared.entry.Entry.{Entry}
 use Rattle.mc_machine.specs.Stands.{Running, IsIdle}

@@ -1,15 +1,13 @@
 -- What a play is, over its record, its showings, its end and its subsystems.
-use Rattle.std.specs.Prelude.{◌≡◌, ℕ, Bool, true, false, List, [], length, map, take, Option, Some, None}
+use Rattle.std.specs.Prelude.{◌≡◌, ℕ, Bool, true, false, List, length, map, take, Option, Some}
 use Rattle.s7_base.specs.declared.entry.Side.{Side}
-use Rattle.s7_base.specs.declared.entry.Side.TheVariants.{A, B}
 use Rattle.s7_base.specs.declared.entry.Request.{Request}
 use Rattle.s7_base.specs.declared.entry.Answer.{Answer}
 use Rattle.s7_base.specs.declared.entry.Entry.{Entry}
 use Rattle.s7_base.specs.Blocks.{Program}
 use Rattle.mc_machine.specs.Meaning.{asked}
-use Rattle.mc_machine.specs.Stands.{Running, Stands}
+use Rattle.mc_machine.specs.Stands.{Stands}
 use Rattle.pair_top.specs.declared.endings.Ended.{Ended}
-use Rattle.pair_top.specs.declared.parts.Life.{Life}
 use Rattle.pair_top.specs.Plan.{Plan}
 use Rattle.pair_top.specs.Cuts.{is_cut}
 use Rattle.pair_top.specs.Sides.{runs, standing}

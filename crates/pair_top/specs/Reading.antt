@@ -1,5 +1,5 @@
 -- What it means that a file was read, and accepted or refused.
-use Rattle.std.specs.Prelude.{◌≡◌, ℕ, zero, suc, ◌<◌, ◌≤◌, List, length, Option, IfSome}
+use Rattle.std.specs.Prelude.{◌≡◌, ℕ, ◌<◌, ◌≤◌, List, length, Option, IfSome}
 use Rattle.pair_io.specs.Causes.{Rose}
 use Rattle.s7_base.specs.declared.instruction.BitInstruction.{BitInstruction}
 use Rattle.s7_base.specs.Blocks.{Program}

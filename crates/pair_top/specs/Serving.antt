@@ -19,7 +19,7 @@ use Rattle.pair_top.specs.declared.reading.TheConstants.{LIMIT}
 use Rattle.pair_top.specs.Plan.{Plan}
 use Rattle.pair_top.specs.Part.{Part}
 use Rattle.pair_top.specs.Played.{IsRun, IsSideOf, answers_of}
-use Rattle.pair_top.specs.Reading.{File, file_of, IsSteady, HasFailed, IsTooLong, IsAccepted, IsPlanned, IsNoSource, IsNoScript, IsSourceOf, source_not_built, script_not_built}
+use Rattle.pair_top.specs.Reading.{File, IsSteady, HasFailed, IsTooLong, IsAccepted, IsPlanned, IsNoSource, IsNoScript, IsSourceOf, source_not_built, script_not_built}
 use Rattle.s7_base.specs.declared.instruction.BitInstruction.{BitInstruction}
 use Rattle.pair_top.specs.SourceText.{IsSource}
 use Rattle.pair_top.specs.ScriptText.{IsScript}

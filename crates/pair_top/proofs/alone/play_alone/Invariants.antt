@@ -1,5 +1,5 @@
 -- Side A has played the first k entries.
-use Rattle.std.proofs.Common.{◌≡◌, ◌+◌, ◌≤◌, [], ◌∷◌, length}
+use Rattle.std.proofs.Common.{◌≡◌, ◌≤◌, [], ◌∷◌, length}
 use Rattle.s7_base.specs.Blocks.{Program}
 use Rattle.mc_machine.specs.Stands.{CanAsk, Stands}
 use Rattle.pair_top.specs.Part.{first_life}
