@@ -1,0 +1,54 @@
+-- The classes of bytes of a source text.
+use Rattle.std.specs.Prelude.{ℕ, List, length, take, drop, slice_index, position, ◌==◌, ◌&&◌, ◌||◌, not, Bool, nat_le}
+use Rattle.std.specs.Option.{unwrap_or}
+use Rattle.std.specs.Str.{str_eq_ignore_ascii_case}
+use Rattle.std.specs.Char.{is_ascii_digit, is_ascii_alphanumeric}
+use Rattle.stl_lex.specs.declared.bytes.ByteClass.{ByteClass}
+use Rattle.stl_lex.specs.declared.bytes.ByteClass.TheVariants.{Blank, Run, Number, Character, Undigit, Line}
+
+-- space and tab
+abbrev pub is_blank : ℕ → Bool
+is_blank b = b == 32 || b == 9
+
+-- letters, digits, `_` and `#`
+abbrev pub is_run_byte : ℕ → Bool
+is_run_byte b = is_ascii_alphanumeric b || b == 95 || b == 35
+
+-- digits and `_`
+abbrev pub is_number_byte : ℕ → Bool
+is_number_byte b = is_ascii_digit b || b == 95
+
+-- what may stand between quotes: 32 to 126 except the quote
+abbrev pub is_character : ℕ → Bool
+is_character b = nat_le 32 b && nat_le b 126 && not (b == 39)
+
+-- `+` and `-`
+abbrev pub is_plus_or_minus : ℕ → Bool
+is_plus_or_minus b = b == 43 || b == 45
+
+-- `:=` `..` `==` `<>` `<=` `>=`
+abbrev pub is_double_sign : ℕ → ℕ → Bool
+is_double_sign a b =
+    (b == 61 && (a == 58 || a == 61 || a == 60 || a == 62)) || (a == 46 && b == 46) || (a == 60 && b == 62)
+
+-- = < > + - * / ( ) ; : , . [ ] "
+abbrev pub is_sign : ℕ → Bool
+is_sign b =
+    b == 61 || b == 60 || b == 62 || b == 43 || b == 45 || b == 42 || b == 47 || b == 40
+    || b == 41 || b == 59 || b == 58 || b == 44 || b == 46 || b == 91 || b == 93 || b == 34
+
+abbrev pub is_of : ByteClass → ℕ → Bool
+is_of Blank b = is_blank b
+is_of Run b = is_run_byte b
+is_of Number b = is_number_byte b
+is_of Character b = is_character b
+is_of Undigit b = not (is_ascii_digit b)
+is_of Line b = not (b == 10)
+
+-- how many bytes from the front on are of a class
+abbrev pub front_length : ByteClass → List ℕ → ℕ
+front_length class bytes = unwrap_or (position (λ b. not (is_of class b)) bytes) (length bytes)
+
+-- the bytes begin with these letters, large or small
+abbrev pub begins : List ℕ → List ℕ → Bool
+begins letters bytes = str_eq_ignore_ascii_case letters (take (length letters) bytes)
