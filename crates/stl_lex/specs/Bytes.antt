@@ -4,7 +4,7 @@ use Rattle.std.specs.Option.{unwrap_or}
 use Rattle.std.specs.Str.{str_eq_ignore_ascii_case}
 use Rattle.std.specs.Char.{is_ascii_digit, is_ascii_alphanumeric}
 use Rattle.stl_lex.specs.declared.bytes.ByteClass.{ByteClass}
-use Rattle.stl_lex.specs.declared.bytes.ByteClass.TheVariants.{Blank, Run, Number, Character, Undigit, Line}
+use Rattle.stl_lex.specs.declared.bytes.ByteClass.TheVariants.{Blank, Run, Number, Character, Undigit, Line, Inside, Letter}
 
 -- space and tab
 abbrev pub is_blank : ℕ → Bool
@@ -44,11 +44,21 @@ is_of Number b = is_number_byte b
 is_of Character b = is_character b
 is_of Undigit b = not (is_ascii_digit b)
 is_of Line b = not (b == 10)
+is_of Inside b = not (b == 125 || b == 10)
+is_of Letter b = not (b == 0)
 
 -- how many bytes from the front on are of a class
 abbrev pub front_length : ByteClass → List ℕ → ℕ
 front_length class bytes = unwrap_or (position (λ b. not (is_of class b)) bytes) (length bytes)
 
+-- these letters, large or small, are the word
+abbrev pub spells : List ℕ → List ℕ → Bool
+spells letters word = str_eq_ignore_ascii_case letters word
+
 -- the bytes begin with these letters, large or small
 abbrev pub begins : List ℕ → List ℕ → Bool
-begins letters bytes = str_eq_ignore_ascii_case letters (take (length letters) bytes)
+begins letters bytes = spells letters (take (length letters) bytes)
+
+-- the letters of a row of a table, without the zeros that fill them up
+abbrev pub letters_of : List ℕ → List ℕ
+letters_of filled = take (front_length Letter filled) filled

@@ -1,3 +1,5 @@
 pub mod Bytes
 pub mod Place
 pub mod Numerals
+pub mod Durations
+pub mod Literals

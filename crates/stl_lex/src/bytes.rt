@@ -1,6 +1,6 @@
 //! The classes of bytes, and how many of a class stand at the front.
-ghost use Rattle.std.specs.Prelude.{◌≡◌, ◌==◌, ◌<◌, ◌≤◌, not, length, position, IfSome};
-ghost use Rattle.stl_lex.specs.Bytes.{is_blank, is_run_byte, is_number_byte, is_character, is_plus_or_minus, is_double_sign, is_sign, is_of, front_length, begins};
+ghost use Rattle.std.specs.Prelude.{◌≡◌, ◌<◌, ◌≤◌, ◌-◌, true, not, length, position, IfSome, slice_index, drop};
+ghost use Rattle.stl_lex.specs.Bytes.{is_blank, is_run_byte, is_number_byte, is_character, is_plus_or_minus, is_double_sign, is_sign, is_of, front_length, spells, begins, letters_of};
 
 /// What the bytes at a front have in common.
 #[derive(Clone, Copy, Debug, PartialEq, Eq)]
@@ -17,6 +17,10 @@ pub enum ByteClass {
     Undigit,
     /// No line feed.
     Line,
+    /// Neither `}` nor a line feed.
+    Inside,
+    /// No zero.
+    Letter,
 }
 
 pub fn is_blank(byte: u8) -> bool
@@ -90,6 +94,8 @@ fn is_of(class: ByteClass, byte: u8) -> bool
         ByteClass::Character => is_character(byte),
         ByteClass::Undigit => !byte.is_ascii_digit(),
         ByteClass::Line => byte != b'\n',
+        ByteClass::Inside => byte != b'}' && byte != b'\n',
+        ByteClass::Letter => byte != 0,
     }
 }
 
@@ -105,14 +111,48 @@ fn front_end(class: ByteClass, bytes: &[u8]) -> Option<usize>
 pub fn front_length(class: ByteClass, bytes: &[u8]) -> usize
     ensures exact { result ≡ front_length class bytes.now }
     ensures within { result ≤ length bytes.now }
+    ensures some { 0 < length bytes.now → is_of class (slice_index bytes.now 0) ≡ true → 0 < result }
 {
     front_end(class, bytes).unwrap_or(bytes.len())
+}
+
+/// Whether these letters, large or small, are the word.
+pub fn spells(letters: &[u8], word: &[u8]) -> bool
+    ensures { result ≡ spells letters.now word.now }
+{
+    letters.eq_ignore_ascii_case(word)
 }
 
 /// Whether the bytes begin with these letters, large or small.
 pub fn begins(letters: &[u8], bytes: &[u8]) -> bool
     ensures { result ≡ begins letters.now bytes.now }
 {
-    let n = letters.len().min(bytes.len());
-    letters.eq_ignore_ascii_case(&bytes[..n])
+    spells(letters, &bytes[..letters.len().min(bytes.len())])
+}
+
+/// The letters of a row of a table, without the zeros that fill them up.
+pub fn letters_of(filled: &[u8]) -> &[u8]
+    ensures { result.now ≡ letters_of filled.now }
+{
+    &filled[..front_length(ByteClass::Letter, filled)]
+}
+
+/// The bytes without the first n.
+pub fn after(n: usize, bytes: &[u8]) -> &[u8]
+    ensures exact { result.now ≡ drop n bytes.now }
+    ensures count { length result.now ≡ length bytes.now - n }
+{
+    &bytes[n.min(bytes.len())..]
+}
+
+/// The byte at an index, or 0 past the end.
+pub fn byte_at(bytes: &[u8], index: usize) -> u8
+    ensures exact { result ≡ slice_index bytes.now index }
+    ensures within { 0 < result → index < length bytes.now }
+{
+    if index < bytes.len() {
+        bytes[index]
+    } else {
+        0
+    }
 }

@@ -2,8 +2,11 @@
 #![tactic(auto)]
 
 mod bytes;
+mod durations;
 mod fault;
+mod literals;
 mod numerals;
+mod piece;
 mod place;
 
 pub use fault::LoadFault;

@@ -3,7 +3,7 @@ ghost use Rattle.std.specs.Prelude.{◌≡◌, ◌<◌, ◌≤◌, ◌^◌, min}
 ghost use Rattle.stl_lex.specs.Numerals.{digit, is_digit, goes_on, is_numeral, and_byte, value_of, digit_count};
 
 /// Values are told apart up to here: above each number that a literal may have.
-pub const CEILING: u64 = 1 << 33;
+pub const CEILING: u64 = 1 << 32;
 
 /// What a byte is worth as a digit, or 36.
 fn digit(byte: u8) -> u8
