@@ -3,3 +3,5 @@ pub mod Place
 pub mod Numerals
 pub mod Durations
 pub mod Literals
+pub mod Runs
+pub mod Pieces

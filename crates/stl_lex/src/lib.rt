@@ -8,5 +8,6 @@ mod literals;
 mod numerals;
 mod piece;
 mod place;
+mod runs;
 
 pub use fault::LoadFault;
