@@ -1,1 +1,2 @@
 pub mod Ceiling
+pub mod Cutting

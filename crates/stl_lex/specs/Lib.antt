@@ -5,3 +5,4 @@ pub mod Durations
 pub mod Literals
 pub mod Runs
 pub mod Pieces
+pub mod Tokens

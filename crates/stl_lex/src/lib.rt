@@ -4,10 +4,15 @@
 mod bytes;
 mod durations;
 mod fault;
+mod lexer;
 mod literals;
 mod numerals;
 mod piece;
 mod place;
 mod runs;
+mod token;
 
 pub use fault::LoadFault;
+pub use lexer::{LexError, tokens};
+pub use piece::TokenKind;
+pub use token::{Token, Tokens};
