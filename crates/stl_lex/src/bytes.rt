@@ -150,9 +150,5 @@ pub fn byte_at(bytes: &[u8], index: usize) -> u8
     ensures exact { result ≡ slice_index bytes.now index }
     ensures within { 0 < result → index < length bytes.now }
 {
-    if index < bytes.len() {
-        bytes[index]
-    } else {
-        0
-    }
+    if index < bytes.len() { bytes[index] } else { 0 }
 }

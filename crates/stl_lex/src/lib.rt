@@ -16,3 +16,6 @@ pub use fault::LoadFault;
 pub use lexer::{LexError, tokens};
 pub use piece::TokenKind;
 pub use token::{Token, Tokens};
+
+#[cfg(test)]
+mod tests;

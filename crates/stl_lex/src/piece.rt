@@ -3,7 +3,9 @@ ghost use Rattle.std.specs.Prelude.{◌≡◌, ◌<◌, ◌≤◌, ◌+◌, true
 ghost use Rattle.stl_lex.specs.Bytes.{is_run_byte};
 ghost use Rattle.stl_lex.specs.Pieces.{gap, lexeme, bad, closes_at, comment, is_title, line_length, attribute, characters, run, piece};
 
-use crate::bytes::{ByteClass, after, begins, byte_at, front_length, is_blank, is_double_sign, is_run_byte, is_sign};
+use crate::bytes::{
+    ByteClass, after, begins, byte_at, front_length, is_blank, is_double_sign, is_run_byte, is_sign,
+};
 use crate::fault::TokenFault;
 use crate::runs::{run_form, run_length};
 
