@@ -1,6 +1,6 @@
 -- The classes of bytes of a source text.
 use Rattle.std.specs.Prelude.{ℕ, List, length, take, drop, slice_index, position, ◌==◌, ◌&&◌, ◌||◌, not, Bool, nat_le}
-use Rattle.std.specs.Option.{unwrap_or}
+use Rattle.std.specs.List.{prefix_len}
 use Rattle.std.specs.Str.{str_eq_ignore_ascii_case}
 use Rattle.std.specs.Char.{is_ascii_digit, is_ascii_alphanumeric}
 use Rattle.stl_lex.specs.declared.bytes.ByteClass.{ByteClass}
@@ -49,7 +49,7 @@ is_of Letter b = not (b == 0)
 
 -- how many bytes from the front on are of a class
 abbrev pub front_length : ByteClass → List ℕ → ℕ
-front_length class bytes = unwrap_or (position (λ b. not (is_of class b)) bytes) (length bytes)
+front_length class bytes = prefix_len (is_of class) bytes
 
 -- these letters, large or small, are the word
 abbrev pub spells : List ℕ → List ℕ → Bool

@@ -108,6 +108,7 @@ fn front_end(class: ByteClass, bytes: &[u8]) -> Option<usize>
 }
 
 /// How many bytes of the class stand at the front.
+#[tactic(auto, using(crate::proofs::Fronts::front_some))]
 pub fn front_length(class: ByteClass, bytes: &[u8]) -> usize
     ensures exact { result ≡ front_length class bytes.now }
     ensures within { result ≤ length bytes.now }
