@@ -1,10 +1,10 @@
 -- Cutting a text piece by piece.
-use Rattle.std.proofs.Common.{◌≡◌, ◌≤◌, ◌<◌, ℕ, zero, suc, List, [], ◌∷◌, ◌++◌, ◌-◌, ◌+◌, take, drop, refl, ap, subst, arith, length, append_assoc, append-nil, ◌==◌, Bool, true, ◌∙◌, sym}
+use Rattle.std.proofs.Common.{◌≡◌, ◌<◌, ℕ, zero, suc, List, [], ◌∷◌, ◌++◌, ◌-◌, take, drop, refl, ap, subst, arith, length, append_assoc, append-nil, ◌==◌, true, ◌∙◌, sym}
 use Rattle.std.proofs.lemmas.Bool.{eqb-true}
 use Rattle.std.specs.Prelude.{Result, Ok, Err}
 use Rattle.stl_lex.specs.Place.{next, over}
-use Rattle.stl_lex.specs.Pieces.{Placed, cut, piece, begun}
-use Rattle.stl_lex.specs.Tokens.{tokens_of, joined, with_token, token, fault_at, Adds, IsFaulty, Keeps, Gives}
+use Rattle.stl_lex.specs.Pieces.{cut, piece, begun}
+use Rattle.stl_lex.specs.Tokens.{tokens_of, joined, with_token, token, Adds, IsFaulty, Keeps, Gives}
 use Rattle.stl_lex.specs.declared.lexer.LexError.{LexError}
 use Rattle.stl_lex.specs.declared.lexer.LexError.TheVariants as errors
 use Rattle.stl_lex.specs.declared.place.Place.{Place}

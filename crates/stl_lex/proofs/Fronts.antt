@@ -1,6 +1,6 @@
 -- How many bytes of a class stand at the front.
-use Rattle.std.proofs.Common.{◌≡◌, ◌≤◌, ◌<◌, ◌+◌, ℕ, List, [], ◌∷◌, Bool, true, false, not, cond, length, get_or, refl, ap, arith, ◌∙◌, sym}
-use Rattle.std.specs.Prelude.{position, Option, Some, None, nat_lt}
+use Rattle.std.proofs.Common.{◌≡◌, ◌≤◌, ◌<◌, ℕ, List, [], ◌∷◌, Bool, true, false, not, cond, length, get_or, refl, arith}
+use Rattle.std.specs.Prelude.{position, Some, None, nat_lt}
 use Rattle.std.specs.Option.{unwrap_or}
 use Rattle.std.specs.List.{prefix_len}
 use Rattle.std.proofs.lemmas.List.Sums.{prefix_len-le-length}

@@ -1,5 +1,5 @@
 -- The classes of bytes of a source text.
-use Rattle.std.specs.Prelude.{ℕ, List, length, take, drop, slice_index, position, ◌==◌, ◌&&◌, ◌||◌, not, Bool, nat_le}
+use Rattle.std.specs.Prelude.{ℕ, List, length, take, ◌==◌, ◌&&◌, ◌||◌, not, Bool, nat_le}
 use Rattle.std.specs.List.{prefix_len}
 use Rattle.std.specs.Str.{str_eq_ignore_ascii_case}
 use Rattle.std.specs.Char.{is_ascii_digit, is_ascii_alphanumeric}

@@ -6,3 +6,5 @@ pub mod Literals
 pub mod Runs
 pub mod Pieces
 pub mod Tokens
+pub mod Spans
+pub mod Faults

@@ -1,5 +1,5 @@
 -- What a run with `#` inside says: its prefix, by a table, and the value behind it.
-use Rattle.std.specs.Prelude.{ℕ, List, length, drop, slice_index, find, ◌==◌, ◌&&◌, Bool, nat_le, Option, Some, None, if◌then◌else◌, codes}
+use Rattle.std.specs.Prelude.{ℕ, List, length, drop, slice_index, find, ◌==◌, ◌&&◌, nat_le, Option, Some, None, if◌then◌else◌}
 use Rattle.stl_lex.specs.declared.fault.TokenFault.TheVariants.{BadNumber, OutOfRange}
 use Rattle.stl_lex.specs.declared.piece.TokenKind.{TokenKind}
 use Rattle.stl_lex.specs.declared.piece.TokenKind.TheVariants as kinds

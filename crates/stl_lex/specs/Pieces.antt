@@ -1,5 +1,5 @@
 -- A text is cut into pieces from left to right: blanks and comments, tokens, and what is neither.
-use Rattle.std.specs.Prelude.{ℕ, zero, suc, List, [], ◌∷◌, length, take, drop, slice_index, ◌==◌, ◌&&◌, ◌||◌, Bool, true, false, Option, Some, None, nat_le, nat_lt, if◌then◌else◌, ◌+◌, ◌-◌, codes}
+use Rattle.std.specs.Prelude.{ℕ, zero, suc, List, [], ◌∷◌, length, take, drop, slice_index, ◌==◌, ◌&&◌, ◌||◌, Bool, false, Option, Some, None, nat_le, nat_lt, if◌then◌else◌, ◌+◌, ◌-◌, codes}
 use Rattle.stl_lex.specs.declared.bytes.ByteClass.TheVariants as classes
 use Rattle.stl_lex.specs.declared.fault.TokenFault.{TokenFault}
 use Rattle.stl_lex.specs.declared.fault.TokenFault.TheVariants.{BadByte, UnclosedComment}

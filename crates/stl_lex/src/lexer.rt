@@ -2,6 +2,8 @@
 ghost use Rattle.std.specs.Prelude.{◌≡◌, ◌≤◌, ◌<◌, ◌+◌, ◌^◌, length, IfOk, List};
 ghost use Rattle.stl_lex.specs.Pieces.{begun};
 ghost use Rattle.stl_lex.specs.Tokens.{text_tokens, Gives, Keeps, kind_number};
+ghost use Rattle.stl_lex.specs.Spans.{AreSpans};
+ghost use Rattle.stl_lex.specs.Faults.{Judges, text_faults};
 
 use crate::fault::{LoadFault, TokenFault};
 use crate::piece::{Form, Piece, piece_at};
@@ -76,9 +78,8 @@ fn begun(place: Place, form: Form) -> Place
     }
 }
 
-/// The tokens of the text, or its first fault: the kinds 1 to 4, that of the least line, then of the least
-/// column, then of the lowest kind. The text has at most 1,048,576 bytes.
-pub fn tokens(alloc: Global, text: &[u8]) -> Result<Tokens, LexError>
+/// Reads the text piece by piece.
+fn read(alloc: Global, text: &[u8]) -> Result<Tokens, LexError>
     requires { length text.now ≤ 1048576 }
     ensures exact { Gives result (text_tokens text.now) }
     ensures count { IfOk result (λ ts. length ts ≤ length text.now) }
@@ -94,4 +95,24 @@ pub fn tokens(alloc: Global, text: &[u8]) -> Result<Tokens, LexError>
         rest = after;
     }
     Ok(Tokens::new(list))
+}
+
+/// The tokens of the text, or its first fault: the kinds 1 to 4, that of the least line, then of the least
+/// column, then of the lowest kind. The text has at most 1,048,576 bytes.
+///
+/// # Errors
+///
+/// `Fault` where a part of the text is no token, no blank, no line end and no comment; `NoMemory` where
+/// memory runs out.
+pub fn tokens(alloc: Global, text: &[u8]) -> Result<Tokens, LexError>
+    requires { length text.now ≤ 1048576 }
+    // The longest-first reading of the text, piece by piece.
+    ensures exact { Gives result (text_tokens text.now) }
+    // Spans in order, and only blanks, line ends and comments around them.
+    ensures spans { IfOk result (λ ts. AreSpans 0 text.now ts) }
+    // Tokens where no part is at fault, and else the first of all faults.
+    ensures first { Judges result (text_faults text.now) }
+    ensures count { IfOk result (λ ts. length ts ≤ length text.now) }
+{
+    read(alloc, text)
 }

@@ -2,7 +2,7 @@ use Rattle.std.proofs.Common.{◌≡◌, ◌≤◌, ◌+◌, length}
 use Rattle.stl_lex.specs.Pieces.{cut}
 use Rattle.stl_lex.specs.Tokens.{tokens_of, text_tokens}
 use Rattle.stl_lex.proofs.Cutting.{with_front}
-use Rattle.stl_lex.proofs.lexer.tokens.Given as goal
+use Rattle.stl_lex.proofs.lexer.read.Given as goal
 
 abbrev pub invariant-loop-rest : goal.invariant-loop-rest
 invariant-loop-rest l = record {
