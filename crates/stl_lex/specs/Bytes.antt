@@ -1,6 +1,6 @@
 -- The classes of bytes of a source text.
-use Rattle.std.specs.Prelude.{ℕ, List, length, take, ◌==◌, ◌&&◌, ◌||◌, not, Bool, nat_le}
-use Rattle.std.specs.List.{prefix_len}
+use Rattle.std.specs.Prelude.{codes, ℕ, List, length, take, ◌==◌, ◌&&◌, ◌||◌, not, Bool, nat_le}
+use Rattle.std.specs.List.{prefix_len, list_any}
 use Rattle.std.specs.Str.{str_eq_ignore_ascii_case}
 use Rattle.std.specs.Char.{is_ascii_digit, is_ascii_alphanumeric}
 use Rattle.stl_lex.specs.declared.bytes.ByteClass.{ByteClass}
@@ -31,12 +31,11 @@ abbrev pub is_double_sign : ℕ → ℕ → Bool
 is_double_sign a b =
     (b == 61 && (a == 58 || a == 61 || a == 60 || a == 62)) || (a == 46 && b == 46) || (a == 60 && b == 62)
 
--- = < > + - * / ( ) ; : , . [ ] "
+-- the signs of one byte
 abbrev pub is_sign : ℕ → Bool
-is_sign b =
-    b == 61 || b == 60 || b == 62 || b == 43 || b == 45 || b == 42 || b == 47 || b == 40
-    || b == 41 || b == 59 || b == 58 || b == 44 || b == 46 || b == 91 || b == 93 || b == 34
+is_sign b = list_any (λ sign. sign == b) (codes "=<>+-*/();:,.[]\"")
 
+-- what a class of bytes has in it
 abbrev pub is_of : ByteClass → ℕ → Bool
 is_of Blank b = is_blank b
 is_of Run b = is_run_byte b

@@ -3,13 +3,9 @@ use Rattle.std.specs.Prelude.{ℕ, List, [], ◌∷◌, length, take, drop, ◌=
 use Rattle.stl_lex.specs.declared.bytes.ByteClass.TheVariants as classes
 use Rattle.stl_lex.specs.declared.durations.TimeUnit.{TimeUnit}
 use Rattle.stl_lex.specs.Bytes.{front_length, spells, letters_of}
-use Rattle.stl_lex.specs.Numerals.{is_numeral, value_of}
+use Rattle.stl_lex.specs.Numerals.{number_length, is_numeral, value_of}
 
--- how many digits and `_` stand at the front
-abbrev pub number_length : List ℕ → ℕ
-number_length bytes = front_length classes.Number bytes
-
--- and how many bytes stand between them and the next digit
+-- how many bytes stand between the number at the front and the next digit
 abbrev pub unit_length : List ℕ → ℕ
 unit_length bytes = front_length classes.Undigit (drop (number_length bytes) bytes)
 
@@ -42,5 +38,6 @@ time_from time (unit ∷ units) bytes = time_from (time + part_value unit bytes)
 abbrev pub is_duration : List TimeUnit → List ℕ → Bool
 is_duration units bytes = not (length bytes == 0) && (length (left_over units bytes) == 0)
 
+-- the milliseconds of a duration
 abbrev pub milliseconds : List TimeUnit → List ℕ → ℕ
 milliseconds units bytes = time_from 0 units bytes

@@ -17,6 +17,7 @@ pub record PlacedFault : Type 0 where
   pub column : ℕ
   pub kind : ℕ
 
+-- the fault of a piece, before others
 abbrev pub with_fault : Place → Form → List PlacedFault → List PlacedFault
 with_fault p Gap fs = fs
 with_fault p (Lexeme kind) fs = fs
@@ -27,6 +28,7 @@ unfoldable pub faults_of : List Placed → List PlacedFault
 faults_of [] = []
 faults_of (x ∷ xs) = with_fault x.place x.piece.form (faults_of xs)
 
+-- all faults of a text
 abbrev pub text_faults : List ℕ → List PlacedFault
 text_faults text = faults_of (pieces text)
 
@@ -34,6 +36,7 @@ text_faults text = faults_of (pieces text)
 abbrev pub IsNotAfter : PlacedFault → PlacedFault → Type 0
 IsNotAfter f g = (f.line < g.line) ⊎ ((f.line ≡ g.line) × ((f.column < g.column) ⊎ ((f.column ≡ g.column) × (f.kind ≤ g.kind))))
 
+-- f is among these
 abbrev pub IsOneOf : PlacedFault → List PlacedFault → Type 0
 IsOneOf f [] = ⊥
 IsOneOf f (g ∷ gs) = (f ≡ g) ⊎ IsOneOf f gs

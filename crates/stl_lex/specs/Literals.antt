@@ -19,10 +19,12 @@ use Rattle.stl_lex.specs.Durations.{is_duration, milliseconds}
 abbrev pub ranged : TokenKind → ℕ → ℕ → Form
 ranged kind most value = if nat_le value most then Lexeme kind else Bad OutOfRange
 
+-- a number in digits of a base, up to a greatest one
 abbrev pub numeral_form : TokenKind → ℕ → ℕ → List ℕ → Form
 numeral_form kind base most digits =
     if is_numeral base digits then ranged kind most (value_of base digits) else Bad BadNumber
 
+-- a duration in these units, up to a greatest number of milliseconds
 unfoldable pub duration_form : List TimeUnit → ℕ → List ℕ → Form
 duration_form units most bytes =
     if is_duration units bytes then ranged kinds.Literal most (milliseconds units bytes) else Bad BadNumber
@@ -50,9 +52,11 @@ value_form values.Pointer bytes = Lexeme kinds.Literal
 unfoldable pub literal_of : List ℕ → Option Literal
 literal_of run = find (λ row. begins (letters_of row.prefix) run) LITERALS
 
+-- what a run is by this row
 abbrev pub literal_by : Option Literal → List ℕ → Form
 literal_by None run = Bad BadNumber
 literal_by (Some row) run = value_form row.value (drop (length (letters_of row.prefix)) run)
 
+-- what a run with `#` inside is
 abbrev pub literal_form : List ℕ → Form
 literal_form run = literal_by (literal_of run) run

@@ -13,12 +13,15 @@ use Rattle.stl_lex.specs.Bytes.{is_blank, is_run_byte, is_double_sign, is_sign, 
 use Rattle.stl_lex.specs.Place.{start, next}
 use Rattle.stl_lex.specs.Runs.{run_length, run_form}
 
+-- n bytes of blanks or of a comment
 abbrev pub gap : ℕ → Piece
 gap n = record { form = Gap; length = n }
 
+-- a token of n bytes
 abbrev pub lexeme : TokenKind → ℕ → Piece
 lexeme kind n = record { form = Lexeme kind; length = n }
 
+-- n bytes at fault
 abbrev pub bad : TokenFault → ℕ → Piece
 bad fault n = record { form = Bad fault; length = n }
 
@@ -27,6 +30,7 @@ abbrev pub closes_at : ℕ → Bool → List ℕ → Option ℕ
 closes_at n star [] = None
 closes_at n star (b ∷ bs) = if star && b == 41 then Some (n + 1) else closes_at (n + 1) (b == 42) bs
 
+-- a comment by where it ends
 abbrev pub comment_by : Option ℕ → List ℕ → Piece
 comment_by (Some n) bytes = gap (n + 2)
 comment_by None bytes = bad UnclosedComment (length bytes)
@@ -57,6 +61,7 @@ characters bytes =
     let n = front_length classes.Character (drop 1 bytes) in
     if nat_lt 0 n && nat_le n 4 && slice_index (drop 1 bytes) n == 39 then lexeme kinds.Characters (n + 2) else bad BadByte 1
 
+-- letters, digits, `_` and `#`
 abbrev pub run : List ℕ → Piece
 run bytes = record { form = run_form (take (run_length bytes) bytes); length = run_length bytes }
 
@@ -95,5 +100,6 @@ cut zero p (b ∷ bs) =
     record { place = p; piece = x } ∷ cut (x.length - 1) (next (begun p x.form) b) bs
 cut (suc n) p (b ∷ bs) = cut n (next p b) bs
 
+-- the pieces of a text
 abbrev pub pieces : List ℕ → List Placed
 pieces text = cut 0 start text

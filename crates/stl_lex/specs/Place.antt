@@ -2,6 +2,7 @@
 use Rattle.std.specs.Prelude.{ℕ, List, [], ◌∷◌, ◌+◌, ◌==◌, true, if◌then◌else◌}
 use Rattle.stl_lex.specs.declared.place.Place.{Place}
 
+-- the place of the first byte
 abbrev pub start : Place
 start = record { at = 0; line = 1; column = 1; opens_line = true }
 

@@ -7,8 +7,7 @@ use Rattle.stl_lex.specs.declared.piece.TokenKind.TheVariants as kinds
 use Rattle.stl_lex.specs.declared.piece.Form.{Form}
 use Rattle.stl_lex.specs.declared.piece.Form.TheVariants.{Lexeme}
 use Rattle.stl_lex.specs.Bytes.{front_length, is_plus_or_minus, spells, begins}
-use Rattle.stl_lex.specs.Numerals.{is_numeral}
-use Rattle.stl_lex.specs.Durations.{number_length}
+use Rattle.stl_lex.specs.Numerals.{number_length, is_numeral}
 use Rattle.stl_lex.specs.Literals.{numeral_form, unsigned, literal_form}
 
 -- digits and E
@@ -42,6 +41,7 @@ is_real_part run =
 abbrev pub digits_form : List ℕ → Form
 digits_form run = if is_real_part run then Lexeme kinds.RealPart else numeral_form kinds.Number 10 4294967295 run
 
+-- what a run is: by its first byte, and by whether `#` stands inside
 unfoldable pub run_form : List ℕ → Form
 run_form run =
     if slice_index run 0 == 35 then Lexeme kinds.Local

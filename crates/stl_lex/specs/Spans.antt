@@ -17,6 +17,7 @@ IsLineComment gap = (inside : List ℕ) × (gap ≡ 47 ∷ 47 ∷ inside) × (li
 abbrev pub IsComment : List ℕ → Type 0
 IsComment gap = (inside : List ℕ) × (gap ≡ 40 ∷ 42 ∷ inside) × (closes_at 0 false inside ≡ Some (length inside))
 
+-- what stands around tokens
 abbrev pub IsGap : List ℕ → Type 0
 IsGap gap = IsSpace gap ⊎ (IsLineComment gap ⊎ IsComment gap)
 

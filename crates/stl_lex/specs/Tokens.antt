@@ -13,18 +13,22 @@ use Rattle.stl_lex.specs.declared.lexer.LexError.{LexError}
 use Rattle.stl_lex.specs.declared.lexer.LexError.TheVariants as errors
 use Rattle.stl_lex.specs.Pieces.{Placed, pieces}
 
+-- the token of n bytes at a place
 abbrev pub token : Place → TokenKind → ℕ → Token
 token p kind n = record { kind = kind; from = p.at; to = p.at + n; line = p.line; column = p.column }
 
+-- the numbers of the kinds of faults
 abbrev pub kind_number : TokenFault → ℕ
 kind_number BadByte = 1
 kind_number BadNumber = 2
 kind_number OutOfRange = 3
 kind_number UnclosedComment = 4
 
+-- what is told of a fault at a place
 abbrev pub fault_at : Place → TokenFault → LoadFault
 fault_at p fault = record { kind = kind_number fault; line = p.line }
 
+-- one token more, in front
 abbrev pub with_token : Token → Result (List Token) LoadFault → Result (List Token) LoadFault
 with_token t (Ok ts) = Ok (t ∷ ts)
 with_token t (Err f) = Err f
@@ -35,6 +39,7 @@ joined p Gap n others = others
 joined p (Lexeme kind) n others = with_token (token p kind n) others
 joined p (Bad fault) n others = Err (fault_at p fault)
 
+-- the tokens of these pieces, or the first fault
 unfoldable pub tokens_of : List Placed → Result (List Token) LoadFault
 tokens_of [] = Ok []
 tokens_of (x ∷ xs) = joined x.place x.piece.form x.piece.length (tokens_of xs)
@@ -55,6 +60,7 @@ Adds ts p Gap n us = us ≡ ts
 Adds ts p (Lexeme kind) n us = us ≡ ts ++ token p kind n ∷ []
 Adds ts p (Bad fault) n us = ⊥
 
+-- the fault of a piece
 abbrev pub IsFaulty : Place → Form → LoadFault → Type 0
 IsFaulty p Gap f = ⊥
 IsFaulty p (Lexeme kind) f = ⊥

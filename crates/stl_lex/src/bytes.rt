@@ -64,24 +64,7 @@ pub fn is_double_sign(first: u8, second: u8) -> bool
 pub fn is_sign(byte: u8) -> bool
     ensures { result ≡ is_sign byte }
 {
-    matches!(
-        byte,
-        b'=' | b'<'
-            | b'>'
-            | b'+'
-            | b'-'
-            | b'*'
-            | b'/'
-            | b'('
-            | b')'
-            | b';'
-            | b':'
-            | b','
-            | b'.'
-            | b'['
-            | b']'
-            | b'"'
-    )
+    b"=<>+-*/();:,.[]\"".contains(&byte)
 }
 
 fn is_of(class: ByteClass, byte: u8) -> bool

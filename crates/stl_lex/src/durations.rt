@@ -1,9 +1,10 @@
 //! Durations: parts of a number and a unit, from days down to milliseconds.
 ghost use Rattle.std.specs.Prelude.{◌≡◌, ◌≤◌, ◌+◌, length, min};
-ghost use Rattle.stl_lex.specs.Durations.{number_length, unit_length, is_part, part_length, part_value, left_over, is_duration, milliseconds};
+ghost use Rattle.stl_lex.specs.Numerals.{number_length};
+ghost use Rattle.stl_lex.specs.Durations.{unit_length, is_part, part_length, part_value, left_over, is_duration, milliseconds};
 
 use crate::bytes::{ByteClass, after, front_length, letters_of, spells};
-use crate::numerals::{CEILING, is_numeral, value_of};
+use crate::numerals::{CEILING, is_numeral, number_length, value_of};
 
 /// A unit of time: its letters, filled up with zeros, and its length.
 #[derive(Clone, Copy, Debug, PartialEq, Eq)]
@@ -36,15 +37,7 @@ pub const TIME_UNITS: [TimeUnit; 5] = [
     },
 ];
 
-/// How many digits and `_` stand at the front.
-pub fn number_length(bytes: &[u8]) -> usize
-    ensures exact { result ≡ number_length bytes.now }
-    ensures within { result ≤ length bytes.now }
-{
-    front_length(ByteClass::Number, bytes)
-}
-
-/// How many bytes stand between them and the next digit.
+/// How many bytes stand between the number at the front and the next digit.
 fn unit_length(bytes: &[u8]) -> usize
     ensures exact { result ≡ unit_length bytes.now }
     ensures within { number_length bytes.now + result ≤ length bytes.now }

@@ -1,9 +1,19 @@
 //! Digits of a base, between which one `_` at a time may stand.
-ghost use Rattle.std.specs.Prelude.{◌≡◌, ◌<◌, ◌≤◌, ◌^◌, min};
-ghost use Rattle.stl_lex.specs.Numerals.{digit, is_digit, goes_on, is_numeral, and_byte, value_of, digit_count};
+ghost use Rattle.std.specs.Prelude.{◌≡◌, ◌<◌, ◌≤◌, ◌^◌, min, length};
+ghost use Rattle.stl_lex.specs.Numerals.{number_length, digit, is_digit, goes_on, is_numeral, and_byte, value_of, digit_count};
+
+use crate::bytes::{ByteClass, front_length};
 
 /// Values are told apart up to here: above each number that a literal may have.
 pub const CEILING: u64 = 1 << 32;
+
+/// How many digits and `_` stand at the front.
+pub fn number_length(bytes: &[u8]) -> usize
+    ensures exact { result ≡ number_length bytes.now }
+    ensures within { result ≤ length bytes.now }
+{
+    front_length(ByteClass::Number, bytes)
+}
 
 /// What a byte is worth as a digit, or 36.
 fn digit(byte: u8) -> u8

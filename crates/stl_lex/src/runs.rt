@@ -4,9 +4,8 @@ ghost use Rattle.stl_lex.specs.Bytes.{is_run_byte};
 ghost use Rattle.stl_lex.specs.Runs.{is_mantissa, takes_sign, run_length, is_exponent, is_real_part, digits_form, run_form};
 
 use crate::bytes::{ByteClass, after, begins, byte_at, front_length, is_plus_or_minus, spells};
-use crate::durations::number_length;
 use crate::literals::{literal_form, numeral_form, unsigned};
-use crate::numerals::is_numeral;
+use crate::numerals::{is_numeral, number_length};
 use crate::piece::{Form, TokenKind};
 
 /// Digits and E.
