@@ -1,0 +1,21 @@
+//! Cuts a Statement List source into its tokens, or finds the first fault of one.
+#![tactic(auto)]
+
+mod bytes;
+mod durations;
+mod fault;
+mod lexer;
+mod literals;
+mod numerals;
+mod piece;
+mod place;
+mod runs;
+mod token;
+
+pub use fault::LoadFault;
+pub use lexer::{LexError, tokens};
+pub use piece::TokenKind;
+pub use token::{Token, Tokens};
+
+#[cfg(test)]
+mod tests;
