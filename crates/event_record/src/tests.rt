@@ -21,7 +21,7 @@ fn entries_stand_in_the_order_in_which_they_came(rt: HostRuntime) -> Result<(), 
     let none = Record::empty(rt.alloc());
     assert!(rt; none.is_empty() && none.room() == 0);
     let Ok(mut record) = Record::with_room(rt.alloc(), 3) else {
-        return Ok(());
+        return Err("no memory".into());
     };
     record.append(first);
     record.append(second);
