@@ -6,7 +6,7 @@ use Rattle.s7_base.specs.Blocks.{Program}
 use Rattle.pair_top.specs.declared.faults.Fault.{Fault}
 use Rattle.pair_top.specs.declared.faults.Fault.TheVariants.{Usage, FileFault, TooLong, SourceFault, ScriptFault, SinkFault, NoMemory, Differs}
 use Rattle.pair_top.specs.declared.reading.TheConstants.{LIMIT}
-use Rattle.pair_top.specs.Part.{Part}
+use Rattle.subsystem.specs.Part.{Part}
 use Rattle.pair_top.specs.Plan.{Plan}
 use Rattle.pair_top.specs.SourceText.{IsSource}
 use Rattle.pair_top.specs.ScriptText.{IsScript}

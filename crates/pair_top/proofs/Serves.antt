@@ -3,7 +3,7 @@ use Rattle.std.proofs.Common.{Option, Some, None}
 use Rattle.s7_base.specs.Blocks.{Program}
 use Rattle.pair_top.specs.declared.faults.Fault.{Fault}
 use Rattle.pair_top.specs.declared.faults.Fault.TheVariants.{Usage, FileFault, TooLong, SourceFault, ScriptFault, SinkFault, NoMemory, Differs}
-use Rattle.pair_top.specs.Part.{Part, IsNew}
+use Rattle.subsystem.specs.Part.{Part, IsNew}
 use Rattle.pair_top.specs.Plan.{Plan}
 use Rattle.pair_top.specs.Reading.{File, IsAccepted, IsPlanned}
 use Rattle.pair_top.specs.Serving.{Written, Account, IsQuiet, IsSoloRefusal, IsSoloOutcome, SoloServed}

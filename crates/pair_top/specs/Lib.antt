@@ -7,7 +7,6 @@ pub mod Image
 pub mod InputImage
 pub mod Lawful
 pub mod Lives
-pub mod Part
 pub mod Plan
 pub mod Played
 pub mod Playing
@@ -23,5 +22,6 @@ pub mod Statuses
 pub mod Stops
 pub mod Tail
 pub mod Text
+pub mod Views
 pub mod Words
 pub mod WordsView

@@ -8,9 +8,9 @@ use Rattle.s7_base.specs.declared.entry.Answer.TheVariants.{Lost, Back}
 use Rattle.s7_base.specs.declared.entry.Entry.{Entry}
 use Rattle.pair_top.specs.declared.endings.Ended.{Ended}
 use Rattle.pair_top.specs.declared.endings.Ended.TheVariants.{End, Stop, NoneLeft, Spent, NotPlayed}
-use Rattle.pair_top.specs.declared.parts.How.{How}
-use Rattle.pair_top.specs.declared.parts.How.TheVariants.{Loaded, Adopted}
-use Rattle.pair_top.specs.declared.parts.Life.{Life}
+use Rattle.subsystem.specs.declared.parts.How.{How}
+use Rattle.subsystem.specs.declared.parts.How.TheVariants.{Loaded, Adopted}
+use Rattle.subsystem.specs.declared.parts.Life.{Life}
 use Rattle.pair_top.specs.Sides.{same_side, runs, first_standing}
 
 -- a stretch ends by the loss of its side at an entry, or with the run

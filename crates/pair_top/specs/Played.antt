@@ -14,7 +14,7 @@ use Rattle.pair_top.specs.Sides.{runs, standing}
 use Rattle.pair_top.specs.Lawful.{Lawful}
 use Rattle.pair_top.specs.Endings.{IsEnded, IsShown}
 use Rattle.pair_top.specs.Lives.{AreLives, place_of}
-use Rattle.pair_top.specs.Part.{Part}
+use Rattle.subsystem.specs.Part.{Part}
 
 abbrev pub requests_of : List Entry → List (Option Request)
 requests_of entries = map (λ entry. Some entry.request) entries

@@ -17,7 +17,7 @@ use Rattle.pair_top.specs.declared.faults.Fault.{Fault}
 use Rattle.pair_top.specs.declared.faults.Fault.TheVariants.{Usage, FileFault, TooLong, SourceFault, ScriptFault, SinkFault, NoMemory, Differs}
 use Rattle.pair_top.specs.declared.reading.TheConstants.{LIMIT}
 use Rattle.pair_top.specs.Plan.{Plan}
-use Rattle.pair_top.specs.Part.{Part}
+use Rattle.subsystem.specs.Part.{Part}
 use Rattle.pair_top.specs.Played.{IsRun, IsSideOf, answers_of}
 use Rattle.pair_top.specs.Reading.{File, IsSteady, HasFailed, IsTooLong, IsAccepted, IsPlanned, IsNoSource, IsNoScript, IsSourceOf, source_not_built, script_not_built}
 use Rattle.s7_base.specs.declared.instruction.BitInstruction.{BitInstruction}

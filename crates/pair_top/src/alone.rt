@@ -4,15 +4,17 @@ ghost use Rattle.s7_base.specs.Blocks.{Program};
 ghost use Rattle.mc_machine.specs.Stands.{CanAsk, IsAsked, Stands};
 ghost use Rattle.pair_top.specs.Lawful.{IsPlainAnswer};
 ghost use Rattle.pair_top.specs.Playing.{IsImageBefore};
-ghost use Rattle.pair_top.specs.Part.{first_life};
+ghost use Rattle.subsystem.specs.Part.{first_life};
 ghost use Rattle.pair_top.specs.Plan.{IsPlan};
 ghost use Rattle.pair_top.specs.Playing.{IsPlaying};
 ghost use Rattle.pair_top.specs.Showings.{is_output_of};
 
 use crate::input_image::InputImage;
 use crate::plan::Script;
-use crate::{Record, Shown, Subsystem};
+use crate::Shown;
+use event_record::Record;
 use s7_base::{Answer, Ask, Entry, Side};
+use subsystem::Subsystem;
 
 /// The lawful answer to a side that is alone, at moment k.
 fn answer_alone(script: &Script, image: &mut InputImage, ask: &Ask, k: u32) -> Answer

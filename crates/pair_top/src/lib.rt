@@ -3,7 +3,6 @@
 
 mod alone;
 mod endings;
-mod entries;
 mod entry_text;
 mod fault_text;
 mod faults;
@@ -11,7 +10,6 @@ mod fields;
 mod gates;
 mod input_image;
 mod line;
-mod parts;
 mod plan;
 mod printer;
 mod read_error;
@@ -26,10 +24,8 @@ mod words;
 mod writing;
 
 pub use endings::{Ended, Mode};
-pub use entries::Record;
 pub use faults::{Fault, LoadFault, Outcome, ScriptFault};
 pub use gates::{Gate, NoGate};
-pub use parts::{How, Life, Subsystem};
 pub use plan::{Event, Module, ModuleKind, Script, What};
 pub use read_error::ReadError;
 pub use reading::LIMIT;

@@ -7,7 +7,7 @@ ghost use Rattle.pair_io.specs.Causes.{Counts};
 ghost use Rattle.pair_top.specs.CpuTail.{tail_of};
 ghost use Rattle.pair_top.specs.Text.{text};
 ghost use Rattle.std.specs.Io.KnownBytes.{Appends};
-ghost use Rattle.pair_top.specs.Part.{IsNew, first_life};
+ghost use Rattle.subsystem.specs.Part.{IsNew, first_life};
 ghost use Rattle.pair_top.specs.Plan.{Plan, IsPlan};
 ghost use Rattle.pair_top.specs.Playing.{IsPlayedOut};
 ghost use Rattle.pair_top.specs.Reading.{file_of, IsAccepted, IsPlanned, IsSourceOf};
@@ -24,12 +24,14 @@ use crate::reading::{read_blocks, read_plant};
 use crate::views::CpuView;
 use crate::words::{Command, command_from};
 use crate::writing::SinkFault;
-use crate::{Ended, Fault, Gate, Mode, Outcome, Record, Shown, Subsystem};
+use crate::{Ended, Fault, Gate, Mode, Outcome, Shown};
+use event_record::Record;
 use pair_io::{Files, Sink};
 use s7_base::{Blocks, NoMemory};
 use std::alloc::Global;
 use std::sync::Wait;
 use std::thread::Threads;
+use subsystem::Subsystem;
 
 /// Both files of a play.
 fn read_both<F: Files>(
@@ -87,7 +89,7 @@ fn print_alone<K: Sink>(
         (text Mode.Solo record.now.entries shown.now.list Ended.End (tail_of a.now.machine))) }
     ensures cause { Counts (K.faults sink.old) (K.faults sink.new) result }
 {
-    let view = CpuView::new(a.machine());
+    let view = CpuView::new(a);
     print(
         sink,
         Mode::Solo,

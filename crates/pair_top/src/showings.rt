@@ -14,7 +14,7 @@ pub struct Shown {
 
 impl Model for Shown {
     ghost use Rattle.std.specs.Prelude.{◌≤◌, vec_len, vec_capacity};
-    ghost use Rattle.pair_top.specs.Part.{Showings};
+    ghost use Rattle.pair_top.specs.Views.{Showings};
 
     ghost Value = { Showings };
 

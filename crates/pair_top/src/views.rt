@@ -1,44 +1,44 @@
-//! A machine, as a tail shows it.
+//! A subsystem, as a tail shows it.
 
-ghost use Rattle.mc_machine.specs.Stands.{IsRunning};
+ghost use Rattle.subsystem.specs.Part.{IsOpen};
 
 use crate::tail::TailView;
-use mc_machine::Machine;
 use s7_base::{Area, DiagCode};
+use subsystem::Subsystem;
 
-/// A machine that runs.
+/// A subsystem with a life that is open.
 #[derive(Clone, Copy)]
 pub struct CpuView<'a> {
-    machine: &'a Machine,
-    ghost running: { IsRunning machine.now },
+    side: &'a Subsystem,
+    ghost running: { IsOpen side.now },
 }
 
 impl<'a> CpuView<'a> {
     ghost use Rattle.std.specs.Prelude.{◌≡◌};
-    ghost use Rattle.mc_machine.specs.Stands.{IsRunning};
+    ghost use Rattle.subsystem.specs.Part.{IsOpen};
 
-    pub fn new(machine: &'a Machine) -> CpuView<'a>
-        requires { IsRunning machine.now }
-        ensures { result.machine.now ≡ machine.now }
+    pub fn new(side: &'a Subsystem) -> CpuView<'a>
+        requires { IsOpen side.now }
+        ensures { result.side.now ≡ side.now }
     {
-        CpuView { machine }
+        CpuView { side }
     }
 }
 
 impl TailView for CpuView<'_> {
     ghost use Rattle.pair_top.specs.CpuTail.{tail_of};
 
-    ghost tail = { λ view. tail_of view.machine.now };
+    ghost tail = { λ view. tail_of view.side.now.machine };
 
     fn note_count(&self) -> u32 {
-        self.machine.note_count()
+        self.side.note_count()
     }
 
     fn note_at(&self, k: u32) -> Option<(u64, DiagCode)> {
-        self.machine.note_at(k)
+        self.side.note_at(k)
     }
 
     fn image_byte(&self, area: Area, at_byte: u16) -> Option<u8> {
-        self.machine.image_byte(area, at_byte)
+        self.side.image_byte(area, at_byte)
     }
 }

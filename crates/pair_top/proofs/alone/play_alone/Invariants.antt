@@ -2,7 +2,7 @@
 use Rattle.std.proofs.Common.{◌≡◌, ◌≤◌, [], ◌∷◌, length}
 use Rattle.s7_base.specs.Blocks.{Program}
 use Rattle.mc_machine.specs.Stands.{CanAsk, Stands}
-use Rattle.pair_top.specs.Part.{first_life}
+use Rattle.subsystem.specs.Part.{first_life}
 use Rattle.pair_top.specs.Playing.{IsPlaying, IsImageBefore}
 use Rattle.pair_top.proofs.alone.play_alone.Given as goal
 

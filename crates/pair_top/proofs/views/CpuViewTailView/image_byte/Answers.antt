@@ -1,4 +1,4 @@
--- A byte of a machine is that of its tail.
+-- A byte of a subsystem is that of its tail.
 use Rattle.std.proofs.Common.{◌≡◌, ℕ, Option, Some, None, refl, ◌∙◌, slice_get}
 use Rattle.s7_base.specs.declared.diagnostics.Area.{Area}
 use Rattle.s7_base.specs.declared.diagnostics.Area.TheVariants.{I, Q, M, Db, Timers, Counters, Registers}
@@ -18,4 +18,4 @@ byte_of_tail (Some r) Counters at running shown = absurd shown
 byte_of_tail (Some r) Registers at running shown = absurd shown
 
 pub returns-clause-byte : goal.returns-clause-byte
-returns-clause-byte c shown = c.image_byte.ensures.byte ∙ byte_of_tail c.args.self.now.machine.now c.args.area c.args.at_byte c.args.self.now.running shown
+returns-clause-byte c shown = c.image_byte.ensures.byte ∙ byte_of_tail c.args.self.now.side.now.machine c.args.area c.args.at_byte c.args.self.now.running shown
