@@ -9,9 +9,9 @@ ghost use Rattle.pair_top.specs.Plan.{IsPlan};
 ghost use Rattle.pair_top.specs.Playing.{IsPlaying};
 ghost use Rattle.pair_top.specs.Showings.{is_output_of};
 
+use crate::Shown;
 use crate::input_image::InputImage;
 use crate::plan::Script;
-use crate::Shown;
 use event_record::Record;
 use s7_base::{Answer, Ask, Entry, Side};
 use subsystem::Subsystem;

@@ -4,7 +4,7 @@ use crate::*;
 use pair_io::{MemFiles, MemSink};
 use std::alloc::{AllocError, Global};
 use std::test::Fail;
-use subsystem::Subsystem;
+use subsystem::{How, Subsystem};
 
 const SOURCE: &[u8] =
     b"ORGANIZATION_BLOCK OB 1\nBEGIN\nA I 0.0;\n= Q 0.0;\nEND_ORGANIZATION_BLOCK\n";
