@@ -1,5 +1,6 @@
 //! Reads the files of a command.
 ghost use Rattle.std.specs.Prelude.{◌≡◌, ◌≤◌, length, ℕ, List, IfOk, IfErr, OnOk};
+ghost use Rattle.s7_base.specs.Blocks.{IsPlayable};
 ghost use Rattle.pair_top.specs.Plan.{IsPlan};
 ghost use Rattle.pair_top.specs.Reading.{file_of, WasRead, IsAccepted, IsPlanned, IsReadRefusal, IsSourceRefusal, IsScriptRefusal, CountsOnly};
 
@@ -42,6 +43,7 @@ fn read_file<F: Files>(
 /// The blocks of the source of this name.
 pub fn read_blocks<F: Files>(alloc: Global, files: &mut F, name: &[u8]) -> Result<Blocks, Fault>
     ensures read { IfOk result (IsAccepted (F.content files.old name.now)) }
+    ensures playable { IfOk result IsPlayable }
     ensures refused { IfErr result (IsSourceRefusal (file_of (F.content files.old) (F.faults files.old) (F.faults files.new) name.now)) }
     ensures stays { (other : List ℕ) → F.content files.new other ≡ F.content files.old other }
     ensures counts { OnOk result ((other : List ℕ) → F.faults files.new other ≡ F.faults files.old other) }

@@ -1,6 +1,6 @@
 //! The top call.
 ghost use Rattle.std.specs.Prelude.{◌≡◌, ◌≤◌, ◌<◌, ◌↔◌, ℕ, List, [], ◌∷◌, length, true, Some, None, IsNone, IsTrue, IfOk, IfErr, OnOk, OnErr};
-ghost use Rattle.s7_base.specs.Blocks.{Program};
+ghost use Rattle.s7_base.specs.Blocks.{Program, IsPlayable};
 ghost use Rattle.mc_machine.specs.Stands.{CanAsk, IsRunning, Stands};
 ghost use Rattle.pair_io.specs.Bytes.{AppendsFront};
 ghost use Rattle.pair_io.specs.Causes.{Counts};
@@ -41,6 +41,7 @@ fn read_both<F: Files>(
     files: &mut F,
 ) -> Result<(Blocks, Script), Fault>
     ensures source { IfOk result (λ both. IsAccepted (F.content files.old source.now) both.0) }
+    ensures playable { IfOk result (λ both. IsPlayable both.0) }
     ensures script { IfOk result (λ both. IsPlanned (F.content files.old script.now) both.1) }
     ensures refused { IfErr result (IsSoloRefusal
         (file_of (F.content files.old) (F.faults files.old) (F.faults files.new) source.now)
@@ -62,7 +63,8 @@ fn open_alone(
     end: u32,
     a: &mut Subsystem,
 ) -> Result<(Record, Shown), NoMemory>
-    requires { IsNew a.old }
+    requires new { IsNew a.old }
+    requires playable { IsPlayable blocks.now }
     ensures record { IfOk result (λ room. room.0 ≡ record { entries = []; room = end }) }
     ensures shown { IfOk result (λ room. room.1 ≡ record { list = []; room = end }) }
     ensures lives { OnOk result (a.new.lives ≡ first_life ∷ []) }
@@ -123,7 +125,8 @@ fn play_solo<K: Sink>(
     sink: &mut K,
     a: &mut Subsystem,
 ) -> Outcome
-    requires { IsNew a.old }
+    requires new { IsNew a.old }
+    requires playable { IsPlayable blocks.now }
     ensures status { result.status ≡ status_of result.fault }
     ensures played { IsSoloOutcome blocks.now script.now
         (written_in (K.written sink.old) (K.written sink.new) (K.faults sink.old) (K.faults sink.new))

@@ -1,7 +1,7 @@
 //! One side of the pair.
 ghost use Rattle.std.specs.Prelude.{◌≡◌, ◌<◌, ◌+◌, ◌^◌, ◌∷◌, [], ◌++◌, ◌↔◌, ℕ, List, length, slice_get, None, OnOk, OnErr, IfOk, IsTrue};
 ghost use Rattle.std.specs.Option.{option_map};
-ghost use Rattle.s7_base.specs.Blocks.{Program};
+ghost use Rattle.s7_base.specs.Blocks.{Program, IsPlayable};
 ghost use Rattle.s7_base.specs.declared.entry.Answer.{Answer};
 ghost use Rattle.s7_base.specs.declared.entry.Request.{Request};
 ghost use Rattle.mc_machine.specs.Stands.{CanAsk, CanTake, CanGoOn, IsAsked, IsIdle, WaitsAt, Stands, CpuWaits, OfRunning, HasSizes, byte_of, notes_of};
@@ -70,7 +70,8 @@ impl Subsystem {
 
     /// A new life begins with the first entry.
     pub fn load(&mut self, alloc: Global, blocks: &Blocks) -> Result<(), NoMemory>
-        requires { IsNew self.old }
+        requires new { IsNew self.old }
+        requires playable { IsPlayable blocks.now }
         ensures lives { OnOk result (self.new.lives ≡ first_life ∷ []) }
         ensures stands { OnOk result (Stands blocks.now [] self.new.machine) }
         ensures going { OnOk result (CanAsk self.new.machine) }
