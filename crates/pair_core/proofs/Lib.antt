@@ -1,0 +1,13 @@
+pub mod Added
+pub mod Answers
+pub mod Bounds
+pub mod Grows
+pub mod Keeps
+pub mod Lasts
+pub mod Logs
+pub mod Losses
+pub mod Opens
+pub mod Overs
+pub mod Snoc
+pub mod Taking
+pub mod Visits

@@ -1,0 +1,30 @@
+use Rattle.std.proofs.Common.{ap, ◌∙◌}
+use Rattle.pair_core.specs.declared.turns.Act.{Act}
+use Rattle.pair_core.specs.Sides.{other_side}
+use Rattle.pair_core.specs.World.{World, Game, part, acted}
+use Rattle.pair_core.specs.Kept.{setup_of, world_of}
+use Rattle.pair_core.proofs.Grows.{grows, apart}
+use Rattle.pair_core.proofs.Visits.{keeps}
+use Rattle.pair_core.proofs.pair.Pair.visit.Goals as goal
+
+pub returns-clause-good : goal.returns-clause-good
+returns-clause-good c =
+    let state = c.self.inside.state in
+    rw (c.act.ensures.setup, c.act.ensures.world, c.choose-act.ensures) (keeps (setup_of state) (world_of state) c.args.side c.self.invariant.0.plan c.self.invariant.1)
+
+pub invariant_of-self : goal.invariant_of-self
+invariant_of-self c =
+    let state = c.self.inside.state in
+    (c.act.ensures.kept, rw (c.act.ensures.setup, c.act.ensures.world, c.choose-act.ensures) (keeps (setup_of state) (world_of state) c.args.side c.self.invariant.0.plan c.self.invariant.1))
+
+pub returns-clause-grows : goal.returns-clause-grows
+returns-clause-grows c =
+    let state = c.self.inside.state in
+    rw (← c.self.view_is, ap (λ w. w.log.entries) c.act.ensures.world, c.choose-act.ensures) (grows (setup_of state) (world_of state) c.args.side)
+
+pub returns-clause-apart : goal.returns-clause-apart
+returns-clause-apart c =
+    let state = c.self.inside.state in
+    let other = other_side c.args.side in
+    ap (λ (w : World). part w other) (c.act.ensures.world ∙ ap (λ (act : Act). (acted (setup_of state) (world_of state) c.args.side act).world) c.choose-act.ensures)
+    ∙ (apart (setup_of state) (world_of state) c.args.side ∙ ap (λ (g : Game). part g.world other) c.self.view_is)

@@ -1,0 +1,9 @@
+-- How a run is told to have ended.
+use Rattle.std.specs.Prelude.{unwrap_or}
+use Rattle.pair_core.specs.declared.endings.Ended.{Ended}
+use Rattle.pair_core.specs.declared.endings.Ended.TheVariants.{Spent}
+use Rattle.pair_core.specs.World.{Setup, World, ended}
+
+-- Spent where nothing else holds
+abbrev pub ended_by : Setup → World → Ended
+ended_by p w = unwrap_or (ended p w) Spent

@@ -1,0 +1,17 @@
+pub mod Cuts
+pub mod Endings
+pub mod Finished
+pub mod Good
+pub mod Kept
+pub mod Lawful
+pub mod Lives
+pub mod Losses
+pub mod Places
+pub mod Played
+pub mod Showings
+pub mod Sides
+pub mod SystemStates
+pub mod Stops
+pub mod Turns
+pub mod Views
+pub mod World
