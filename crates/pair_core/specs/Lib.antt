@@ -1,7 +1,10 @@
+pub mod CpuTail
 pub mod Cuts
 pub mod Endings
+pub mod EntryText
 pub mod Finished
 pub mod Good
+pub mod Image
 pub mod Kept
 pub mod Lawful
 pub mod Lives
@@ -10,8 +13,10 @@ pub mod Places
 pub mod Played
 pub mod Showings
 pub mod Sides
-pub mod SystemStates
 pub mod Stops
+pub mod SystemStates
+pub mod Tail
+pub mod Text
 pub mod Turns
 pub mod Views
 pub mod World

@@ -25,7 +25,7 @@ impl Model for Shown {
 
 impl Shown {
     /// No showing, and room for so many.
-    pub(crate) fn with_room(alloc: Global, n: u32) -> Result<Shown, NoMemory>
+    pub fn with_room(alloc: Global, n: u32) -> Result<Shown, NoMemory>
         ensures { IfOk result (λ s. s ≡ record { list = []; room = n }) }
     {
         match Vec::with_capacity(alloc, n as usize) {
@@ -52,7 +52,7 @@ impl Shown {
     }
 
     /// Adds a showing. Takes no memory.
-    pub(crate) fn add(&mut self, entry: u32, side: Side)
+    pub fn add(&mut self, entry: u32, side: Side)
         requires { length self.old.list < self.old.room }
         ensures { self.new ≡ record self.old { list = self.old.list ++ (entry, side) ∷ [] } }
     {

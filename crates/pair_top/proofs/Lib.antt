@@ -1,10 +1,5 @@
-pub mod Digits
 pub mod Due
-pub mod EntryLaws
 pub mod ImageLaws
-pub mod Images
-pub mod Lists
-pub mod Notes
 pub mod Numbers
 pub mod Pieces
 pub mod PlayedOut
@@ -13,7 +8,6 @@ pub mod Rising
 pub mod ScriptLaws
 pub mod ScriptLines
 pub mod ScriptLoop
-pub mod Sections
 pub mod Serves
 pub mod Snoc
 pub mod SourceBlocks

@@ -9,9 +9,9 @@ use Rattle.s7_base.specs.declared.entry.Entry.{Entry}
 use Rattle.s7_base.specs.Blocks.{Program}
 use Rattle.mc_machine.specs.Meaning.{State}
 use Rattle.mc_machine.specs.Stands.{Running, Shows, Stands, CpuWaits}
-use Rattle.pair_top.specs.declared.endings.Ended.TheVariants.{End}
+use Rattle.pair_core.specs.declared.endings.Ended.TheVariants.{End}
 use Rattle.subsystem.specs.declared.parts.Life.{Life}
-use Rattle.pair_top.specs.CpuTail.{noted, tail_of, tail_of_state}
+use Rattle.pair_core.specs.CpuTail.{noted, tail_of, tail_of_state}
 use Rattle.subsystem.specs.Part.{Part, first_life}
 use Rattle.pair_top.specs.Plan.{Plan}
 use Rattle.pair_top.specs.Sides.{runs}

@@ -4,8 +4,8 @@ use mathlib.Core.List.{IsPrefix}
 use Rattle.s7_base.specs.declared.entry.Side.{Side}
 use Rattle.s7_base.specs.declared.entry.Side.TheVariants.{A, B}
 use Rattle.s7_base.specs.declared.entry.Entry.{Entry}
-use Rattle.pair_top.specs.declared.endings.Ended.{Ended}
-use Rattle.pair_top.specs.declared.endings.Ended.TheVariants.{End, Stop, NoneLeft, Spent, NotPlayed}
+use Rattle.pair_core.specs.declared.endings.Ended.{Ended}
+use Rattle.pair_core.specs.declared.endings.Ended.TheVariants.{End, Stop, NoneLeft, Spent, NotPlayed}
 use Rattle.pair_top.specs.Plan.{Plan}
 use Rattle.pair_top.specs.Cuts.{is_cut, is_late}
 use Rattle.pair_top.specs.Sides.{same_side, runs, standing}

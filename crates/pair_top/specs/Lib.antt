@@ -1,9 +1,6 @@
-pub mod CpuTail
 pub mod Cuts
 pub mod Endings
-pub mod EntryText
 pub mod Fields
-pub mod Image
 pub mod InputImage
 pub mod Lawful
 pub mod Lives
@@ -20,8 +17,5 @@ pub mod SourceReading
 pub mod SourceText
 pub mod Statuses
 pub mod Stops
-pub mod Tail
-pub mod Text
-pub mod Views
 pub mod Words
 pub mod WordsView

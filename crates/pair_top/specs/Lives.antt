@@ -6,8 +6,8 @@ use Rattle.s7_base.specs.declared.entry.Loss.TheVariants.{Failed, Suspect}
 use Rattle.s7_base.specs.declared.entry.Answer.{Answer}
 use Rattle.s7_base.specs.declared.entry.Answer.TheVariants.{Lost, Back}
 use Rattle.s7_base.specs.declared.entry.Entry.{Entry}
-use Rattle.pair_top.specs.declared.endings.Ended.{Ended}
-use Rattle.pair_top.specs.declared.endings.Ended.TheVariants.{End, Stop, NoneLeft, Spent, NotPlayed}
+use Rattle.pair_core.specs.declared.endings.Ended.{Ended}
+use Rattle.pair_core.specs.declared.endings.Ended.TheVariants.{End, Stop, NoneLeft, Spent, NotPlayed}
 use Rattle.subsystem.specs.declared.parts.How.{How}
 use Rattle.subsystem.specs.declared.parts.How.TheVariants.{Loaded, Adopted}
 use Rattle.subsystem.specs.declared.parts.Life.{Life}

@@ -7,7 +7,7 @@ use Rattle.s7_base.specs.declared.entry.Entry.{Entry}
 use Rattle.s7_base.specs.Blocks.{Program}
 use Rattle.mc_machine.specs.Meaning.{asked}
 use Rattle.mc_machine.specs.Stands.{Stands}
-use Rattle.pair_top.specs.declared.endings.Ended.{Ended}
+use Rattle.pair_core.specs.declared.endings.Ended.{Ended}
 use Rattle.pair_top.specs.Plan.{Plan}
 use Rattle.pair_top.specs.Cuts.{is_cut}
 use Rattle.pair_top.specs.Sides.{runs, standing}

@@ -6,7 +6,7 @@ use Rattle.s7_base.specs.Blocks.{Program}
 use Rattle.mc_machine.specs.Meaning.{asked}
 use Rattle.mc_machine.specs.Stands.{Running, Stands}
 use Rattle.mc_machine.specs.Meaning.{State}
-use Rattle.pair_top.specs.declared.endings.Ended.TheVariants.{End}
+use Rattle.pair_core.specs.declared.endings.Ended.TheVariants.{End}
 use Rattle.subsystem.specs.Part.{Part}
 use Rattle.pair_top.specs.Serving.{IsAlonePlay, account_of}
 use Rattle.pair_top.specs.InputImage.{Image, IsImageOf}

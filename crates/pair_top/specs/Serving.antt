@@ -10,9 +10,9 @@ use Rattle.s7_base.specs.declared.entry.Answer.{Answer}
 use Rattle.s7_base.specs.declared.entry.Entry.{Entry}
 use Rattle.s7_base.specs.Blocks.{Program}
 use Rattle.mc_machine.specs.Meaning.{State, Waits, Stopped, std}
-use Rattle.pair_top.specs.declared.endings.Ended.{Ended}
-use Rattle.pair_top.specs.declared.endings.Ended.TheVariants.{NotPlayed}
-use Rattle.pair_top.specs.declared.endings.Mode.TheVariants.{Solo}
+use Rattle.pair_core.specs.declared.endings.Ended.{Ended}
+use Rattle.pair_core.specs.declared.endings.Ended.TheVariants.{NotPlayed}
+use Rattle.pair_core.specs.declared.endings.Mode.TheVariants.{Solo}
 use Rattle.pair_top.specs.declared.faults.Fault.{Fault}
 use Rattle.pair_top.specs.declared.faults.Fault.TheVariants.{Usage, FileFault, TooLong, SourceFault, ScriptFault, SinkFault, NoMemory, Differs}
 use Rattle.pair_top.specs.declared.reading.TheConstants.{LIMIT}
@@ -23,8 +23,8 @@ use Rattle.pair_top.specs.Reading.{File, IsSteady, HasFailed, IsTooLong, IsAccep
 use Rattle.s7_base.specs.declared.instruction.BitInstruction.{BitInstruction}
 use Rattle.pair_top.specs.SourceText.{IsSource}
 use Rattle.pair_top.specs.ScriptText.{IsScript}
-use Rattle.pair_top.specs.CpuTail.{tail_of, tail_of_state}
-use Rattle.pair_top.specs.Text.{text}
+use Rattle.pair_core.specs.CpuTail.{tail_of, tail_of_state}
+use Rattle.pair_core.specs.Text.{text}
 use Rattle.pair_top.specs.Words.{Order, solo}
 
 -- the CPU comes to this state with these answers: it waits there at its next request, or has stopped there

@@ -9,10 +9,10 @@ ghost use Rattle.pair_top.specs.Plan.{IsPlan};
 ghost use Rattle.pair_top.specs.Playing.{IsPlaying};
 ghost use Rattle.pair_top.specs.Showings.{is_output_of};
 
-use crate::Shown;
 use crate::input_image::InputImage;
 use crate::plan::Script;
 use event_record::Record;
+use pair_core::Shown;
 use s7_base::{Answer, Ask, Entry, Side};
 use subsystem::Subsystem;
 

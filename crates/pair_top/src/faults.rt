@@ -2,8 +2,8 @@
 ghost use Rattle.std.specs.Prelude.{◌≡◌, [], Some};
 ghost use Rattle.pair_top.specs.Statuses.{status_of};
 
-use crate::{Ended, Shown};
 use event_record::Record;
+use pair_core::{Ended, Shown};
 use std::alloc::Global;
 
 /// A fault of a source: its kind, and its line, counted from 1, or 0 for the whole.

@@ -4,8 +4,8 @@ ghost use Rattle.s7_base.specs.Blocks.{Program, IsPlayable};
 ghost use Rattle.mc_machine.specs.Stands.{CanAsk, IsRunning, Stands};
 ghost use Rattle.pair_io.specs.Bytes.{AppendsFront};
 ghost use Rattle.pair_io.specs.Causes.{Counts};
-ghost use Rattle.pair_top.specs.CpuTail.{tail_of};
-ghost use Rattle.pair_top.specs.Text.{text};
+ghost use Rattle.pair_core.specs.CpuTail.{tail_of};
+ghost use Rattle.pair_core.specs.Text.{text};
 ghost use Rattle.std.specs.Io.KnownBytes.{Appends};
 ghost use Rattle.subsystem.specs.Part.{IsNew, first_life};
 ghost use Rattle.pair_top.specs.Plan.{Plan, IsPlan};
@@ -19,19 +19,18 @@ ghost use Rattle.pair_top.specs.WordsView.{order_of};
 
 use crate::alone::play_alone;
 use crate::plan::Script;
-use crate::printer::print;
 use crate::reading::{read_blocks, read_plant};
-use crate::views::CpuView;
 use crate::words::{Command, command_from};
-use crate::writing::SinkFault;
-use crate::{Ended, Fault, Gate, Mode, Outcome, Shown};
+use crate::{Fault, Gate, Outcome};
 use event_record::Record;
+use pair_core::{Ended, Mode, Shown};
 use pair_io::{Files, Sink};
 use s7_base::{Blocks, NoMemory};
 use std::alloc::Global;
 use std::sync::Wait;
 use std::thread::Threads;
 use subsystem::Subsystem;
+use trace_printer::{SinkFault, print};
 
 /// Both files of a play.
 fn read_both<F: Files>(
@@ -91,15 +90,7 @@ fn print_alone<K: Sink>(
         (text Mode.Solo record.now.entries shown.now.list Ended.End (tail_of a.now.machine))) }
     ensures cause { Counts (K.faults sink.old) (K.faults sink.new) result }
 {
-    let view = CpuView::new(a);
-    print(
-        sink,
-        Mode::Solo,
-        record.as_slice(),
-        shown.as_slice(),
-        Ended::End,
-        Some(&view),
-    )
+    print(sink, Mode::Solo, record, shown, &Ended::End, Some(a))
 }
 
 /// Plays side A to the end of the record, and then up to its next request.
