@@ -7,9 +7,9 @@ ghost use Rattle.pair_io.specs.Bytes.{AppendsFront};
 ghost use Rattle.pair_io.specs.Causes.{Counts};
 ghost use Rattle.pair_io.specs.Writes.{Prints};
 ghost use Rattle.subsystem.specs.Part.{IsOpen};
+ghost use Rattle.pair_core.specs.CpuTail.{tail_of};
 ghost use Rattle.pair_core.specs.Tail.{no_tail};
 ghost use Rattle.pair_core.specs.Text.{showing_line, behind_showing, entry_text, entries_text, record_text, HasTail, tail_text, last_line, text};
-ghost use Rattle.trace_printer.specs.LastTail.{last_tail};
 
 use crate::entry_text::{push_side, push_stop, put_entry};
 use crate::line::Line;
@@ -187,14 +187,14 @@ pub fn print<K: Sink>(
     ended: &Ended,
     last: Option<&Subsystem>,
 ) -> Result<(), SinkFault>
-    requires { HasTail ended.now → IsSomeAnd last.entry IsOpen }
+    requires { HasTail ended.now → IsSomeAnd last (λ side. IsOpen side.now) }
     ensures ok { OnOk result (Appends (K.written sink.old) (K.written sink.new)
-        (text mode entries.now.entries shown.now.list ended.now (last_tail last.entry))) }
+        (text mode entries.now.entries shown.now.list ended.now (option_map_or (λ side. tail_of side.now.machine) last.entry no_tail))) }
     ensures err { OnErr result (AppendsFront (K.written sink.old) (K.written sink.new)
-        (text mode entries.now.entries shown.now.list ended.now (last_tail last.entry))) }
+        (text mode entries.now.entries shown.now.list ended.now (option_map_or (λ side. tail_of side.now.machine) last.entry no_tail))) }
     ensures cause { Counts (K.faults sink.old) (K.faults sink.new) result }
     ensures kept { (more : ℕ) → K.takes sink.old (length (text mode entries.now.entries shown.now.list ended.now
-        (last_tail last.entry)) + more) → IsOk result × K.takes sink.new more }
+        (option_map_or (λ side. tail_of side.now.machine) last.entry no_tail)) + more) → IsOk result × K.takes sink.new more }
 {
     let mut line = Line::new();
     let entries = entries.as_slice();
