@@ -1,5 +1,5 @@
 -- Which operands, as they are stored, an operation may have.
-use Rattle.std.specs.Prelude.{ℕ, ◌+◌, ◌==◌, ◌&&◌, ◌||◌, Bool, true, false, nat_lt, nat_le, if◌then◌else◌}
+use Rattle.std.specs.Prelude.{ℕ, ◌+◌, ◌==◌, ◌&&◌, ◌||◌, Bool, nat_lt, nat_le, if◌then◌else◌}
 use Rattle.s7_base.specs.declared.statement.Statement.{Statement}
 use Rattle.s7_base.specs.declared.operands.OperandKind.{OperandKind}
 use Rattle.s7_base.specs.declared.operands.OperandKind.TheVariants as kinds

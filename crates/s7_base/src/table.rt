@@ -1,5 +1,5 @@
 //! The instruction set in one table.
-ghost use Rattle.std.specs.Prelude.{◌≡◌, slice_get};
+ghost use Rattle.std.specs.Prelude.{◌≡◌, slice_get, IsSomeAnd};
 ghost use Rattle.s7_base.specs.Rows.{row_of};
 
 use crate::operands::OperandKind;
@@ -171,4 +171,26 @@ pub fn instruction_row(number: u16) -> Option<InstructionRow>
     ensures { result ≡ row_of number }
 {
     row_at(&INSTRUCTIONS, number)
+}
+
+impl Operation {
+    /// The number of the operation: the place of its row.
+    #[tactic(auto, unfolding(crate::specs::Rows::row_of))]
+    pub fn number(self) -> u16
+        ensures { IsSomeAnd (row_of result) (λ row. row.operation ≡ self) }
+    {
+        match self {
+            Operation::BitLogic(operation) => operation as u16,
+            Operation::Transfer(operation) => 27 + operation as u16,
+            Operation::Arithmetic(operation) => 40 + operation as u16,
+            Operation::Comparison(operation) => 58 + operation as u16,
+            Operation::WordLogic(operation) => 70 + operation as u16,
+            Operation::ShiftRotate(operation) => 76 + operation as u16,
+            Operation::Branch(operation) => 84 + operation as u16,
+            Operation::TimerControl(operation) => 102 + operation as u16,
+            Operation::CounterControl(operation) => 108 + operation as u16,
+            Operation::BlockControl(operation) => 111 + operation as u16,
+            Operation::NoOperation(operation) => 125 + operation as u16,
+        }
+    }
 }
