@@ -14,6 +14,7 @@ use Rattle.pair_core.specs.declared.own.Parts.{Parts}
 use Rattle.pair_core.specs.Sides.{other_side}
 use Rattle.pair_core.specs.World.{Setup, World, part, part_in, with_part, next_entry, appended, acted, step, choose}
 use Rattle.pair_core.specs.Places.{StandsAfter, IsAt}
+use Rattle.pair_core.specs.Good.{Good}
 
 same : (es : List Entry) → IsPrefix es es
 same es = ([], append-nil es)
@@ -66,3 +67,14 @@ stays program own es fs s h few more = record {
   idle = h.idle;
   machine = λ on. subst (λ xs. StandsAfter program xs s.machine) (sym (take_prefix es more.0 fs own.place more.1 few)) (h.machine on);
 }
+
+-- a visit leaves the other side's subsystem where it stands
+pub other_stays : (p : Setup) (w : World) (s : Side) (sub : Part) → Good p w → IsAt p.program (part w (other_side s)) w.log.entries sub
+    → IsAt p.program (part (step p w s).world (other_side s)) (step p w s).world.log.entries sub
+other_stays p w s sub good h =
+    subst (λ own. IsAt p.program own (step p w s).world.log.entries sub) (sym (apart p w s))
+    (stays p.program (part w (other_side s)) w.log.entries (step p w s).world.log.entries sub h (good.sides (other_side s)).few (grows p w s))
+
+pub moved : (p q : Setup) (w v : World) (s : Side) (sub : Part) → q ≡ p → v ≡ w → IsAt p.program (part w s) w.log.entries sub → IsAt q.program (part v s) v.log.entries sub
+moved p q w v s sub setup world h =
+    subst (λ (x : World). IsAt q.program (part x s) x.log.entries sub) (sym world) (subst (λ (x : Setup). IsAt x.program (part w s) w.log.entries sub) (sym setup) h)

@@ -8,6 +8,9 @@ pub mod Logs
 pub mod Losses
 pub mod Opens
 pub mod Overs
+pub mod Runs
+pub mod Sided
 pub mod Snoc
+pub mod Stands
 pub mod Taking
 pub mod Visits

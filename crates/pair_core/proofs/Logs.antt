@@ -82,11 +82,15 @@ output_goes ask (CpuStop code) h = absurd (cc (no_stop ask code))
 output_goes (Stop code) Done h = absurd cc
 output_goes ask answer h = refl
 
--- an output does not stop the CPU, so the record is open until it is full
+-- an output does not stop the CPU
+pub pending_goes : (p : Setup) (l : Log) → Pending p l → stop_of l.entries ≡ None
+pending_goes p l h = ap stop_of h.is ∙ (stop_snoc None h.front h.last ∙ output_goes h.last.request.ask h.last.answer h.output)
+
+-- so the record is open until it is full
 pub pending_open : (p : Setup) (l : Log) → Pending p l → is_open p l ≡ nat_lt (length l.entries) p.plan.end
 unfolding is_open
 pending_open p l h =
-    let free : stop_of l.entries ≡ None = ap stop_of h.is ∙ (stop_snoc None h.front h.last ∙ output_goes h.last.request.ask h.last.answer h.output) in
+    let free : stop_of l.entries ≡ None = pending_goes p l h in
     rw free (and_yes (nat_lt (length l.entries) p.plan.end))
 
 pub settled_is : (p : Setup) (l : Log) → Settled p l → is_pending l ≡ false

@@ -42,7 +42,7 @@ stays_by plan k ask answer true b h = ap comes_back h
 stays_by plan k ask answer false true h = ap comes_back h
 stays_by plan k ask answer false false h = plain_stays plan k ask answer h
 
-lawful_stays : (plan : Plan) (st : Standing) (k : ℕ) (ask : Ask) (answer : Answer) → IsLawfulAnswer plan st k ask answer → comes_back answer ≡ false
+pub lawful_stays : (plan : Plan) (st : Standing) (k : ℕ) (ask : Ask) (answer : Answer) → IsLawfulAnswer plan st k ask answer → comes_back answer ≡ false
 lawful_stays plan st k ask answer h = stays_by plan k ask answer (st.a && st.b && is_cut plan A k) (st.a && st.b && is_cut plan B k) h
 
 -- the first of two

@@ -32,6 +32,13 @@ open_room p l h =
     let early : nat_lt (length l.entries) p.plan.end ≡ true = is_early (nat_lt (length l.entries) p.plan.end) (not (is_some (stop_of l.entries))) h in
     grind (arith, nat_tests)
 
+-- a record that is not full and goes on is open
+pub open_by : (p : Setup) (l : Log) → stop_of l.entries ≡ None → length l.entries < p.plan.end → is_open p l ≡ true
+unfolding is_open
+open_by p l free less =
+    let early : nat_lt (length l.entries) p.plan.end ≡ true = grind (arith, nat_tests) in
+    rw (early, free)
+
 pub going_at : (p : Setup) (l : Log) (k : ℕ) → is_open p l ≡ true → k ≡ length l.entries → stop_of (take k l.entries) ≡ None
 going_at p l k h here = ap (λ n. stop_of (take n l.entries)) here ∙ (ap stop_of (take-length l.entries) ∙ open_going p l h)
 

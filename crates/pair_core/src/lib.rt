@@ -5,6 +5,7 @@
 mod acts;
 mod cuts;
 mod endings;
+mod laws;
 mod own;
 mod pair;
 mod showings;
@@ -14,6 +15,10 @@ mod state;
 mod turns;
 
 pub use endings::{Ended, Mode, SystemState};
+pub use laws::{asking_stays, begins};
 pub use pair::Pair;
 pub use showings::Shown;
 pub use turns::{Reason, Turn};
+
+#[cfg(test)]
+mod tests;

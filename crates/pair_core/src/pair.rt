@@ -7,7 +7,10 @@ ghost use Rattle.pair_core.specs.World.{part, step, ended, standing_in, first_wo
 ghost use Rattle.pair_core.specs.SystemStates.{state_by};
 ghost use Rattle.pair_core.specs.Places.{IsAt};
 ghost use Rattle.pair_core.specs.Good.{Good};
-ghost use Rattle.pair_core.specs.Finished.{ended_by};
+ghost use Rattle.pair_core.specs.Finished.{ended_by, MayEnd};
+ghost use Rattle.pair_core.specs.Played.{IsRun, IsSideOf};
+ghost use Rattle.s7_base.specs.declared.entry.Side.{Side};
+ghost use Rattle.subsystem.specs.Part.{Part};
 
 use crate::own::{Own, Parts};
 use crate::standing::Standing;
@@ -95,9 +98,11 @@ impl Pair {
         ensures sub { IsAt self.new.setup.program (part self.new.world side) self.new.world.log.entries sub.new }
         ensures good { Good self.new.setup self.new.world }
 
-        // Entries are only added, and what is kept of the other side stays.
+        // Entries are only added, and what is kept of the other side stays, and so does its subsystem.
         ensures grows { IsPrefix self.old.world.log.entries self.new.world.log.entries }
         ensures apart { part self.new.world (other_side side) ≡ part self.old.world (other_side side) }
+        ensures other { (other : Part) → IsAt self.old.setup.program (part self.old.world (other_side side)) self.old.world.log.entries other
+            → IsAt self.new.setup.program (part self.new.world (other_side side)) self.new.world.log.entries other }
         ensures over { is_over result ≡ true → (part self.new.world side).over ≡ true }
     {
         let act = self.state.choose(side);
@@ -165,6 +170,12 @@ impl Pair {
         ensures shown { result.1.list ≡ self.world.log.shown }
         ensures ended { result.2 ≡ ended_by self.setup self.world }
         ensures good { Good self.setup self.world }
+
+        // The record is the standard CPU's and lawful, and the showings and the end follow from it; and a subsystem
+        // that stands where the pair says has the lives and the machine of its side.
+        ensures run { MayEnd self.setup self.world → IsRun self.setup.program self.setup.plan self.setup.solo self.world.log.entries self.world.log.shown result.2 }
+        ensures sides { (side : Side) (sub : Part) → IsAt self.setup.program (part self.world side) self.world.log.entries sub
+            → IsSideOf self.setup.program self.setup.plan self.setup.solo self.world.log.entries result.2 side sub }
     {
         let ended = self.state.ended();
         prove!(spent || ended.is_some());

@@ -1,9 +1,10 @@
-use Rattle.std.proofs.Common.{ap, ◌∙◌}
+use Rattle.std.proofs.Common.{ap, ◌∙◌, sym, subst}
 use Rattle.pair_core.specs.declared.turns.Act.{Act}
 use Rattle.pair_core.specs.Sides.{other_side}
-use Rattle.pair_core.specs.World.{World, Game, part, acted}
+use Rattle.pair_core.specs.World.{World, Game, part, acted, step}
 use Rattle.pair_core.specs.Kept.{setup_of, world_of}
-use Rattle.pair_core.proofs.Grows.{grows, apart}
+use Rattle.pair_core.specs.Places.{IsAt}
+use Rattle.pair_core.proofs.Grows.{moved, other_stays, grows, apart}
 use Rattle.pair_core.proofs.Visits.{keeps}
 use Rattle.pair_core.proofs.pair.Pair.visit.Goals as goal
 
@@ -28,3 +29,12 @@ returns-clause-apart c =
     let other = other_side c.args.side in
     ap (λ (w : World). part w other) (c.act.ensures.world ∙ ap (λ (act : Act). (acted (setup_of state) (world_of state) c.args.side act).world) c.choose-act.ensures)
     ∙ (apart (setup_of state) (world_of state) c.args.side ∙ ap (λ (g : Game). part g.world other) c.self.view_is)
+
+pub returns-clause-other : goal.returns-clause-other
+returns-clause-other c = λ other at_other.
+    let state = c.self.inside.state in
+    let old : IsAt (setup_of state).program (part (world_of state) (other_side c.args.side)) (world_of state).log.entries other =
+    subst (λ (g : Game). IsAt g.setup.program (part g.world (other_side c.args.side)) g.world.log.entries other) (sym c.self.view_is) at_other in
+    moved (setup_of state) (setup_of c.act.new.self) (step (setup_of state) (world_of state) c.args.side).world (world_of c.act.new.self) (other_side c.args.side) other c.act.ensures.setup
+    (c.act.ensures.world ∙ ap (λ (act : Act). (acted (setup_of state) (world_of state) c.args.side act).world) c.choose-act.ensures)
+    (other_stays (setup_of state) (world_of state) c.args.side other c.self.invariant.1 old)
