@@ -1,4 +1,5 @@
 ghost use Rattle.std.specs.Prelude.{true, [], IfOk};
+ghost use Rattle.s7_base.specs.Blocks.{IsPlayable};
 ghost use Rattle.pair_core.specs.World.{part, first_part};
 ghost use Rattle.pair_core.specs.Places.{IsAt};
 
@@ -42,6 +43,7 @@ fn play_pattern(pair: &mut Pair, pattern: &[Side], a: &mut Subsystem, b: &mut Su
 
 #[tactic(auto, using(crate::proofs::Stands::loaded_stands))]
 fn loaded(alloc: Global, blocks: &Blocks) -> Result<Subsystem, Fail>
+    requires { IsPlayable blocks.now }
     ensures { IfOk result (λ s. IsAt blocks.now (first_part true) [] s) }
 {
     let Ok(mut side) = Subsystem::new(alloc) else {

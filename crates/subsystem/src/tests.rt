@@ -1,9 +1,14 @@
+ghost use Rattle.std.specs.Prelude.{IfOk, IfSome};
+ghost use Rattle.s7_base.specs.Blocks.{IsPlayable};
+
 use super::*;
 use s7_base::{Answer, Area, Ask, Blocks, CodeBlock, CodeKind, DiagCode, Request};
 use std::alloc::Global;
 use std::test::Fail;
 
-fn empty_program(alloc: Global) -> Result<Option<Blocks>, Fail> {
+fn empty_program(alloc: Global) -> Result<Option<Blocks>, Fail>
+    ensures { IfOk result (λ blocks. IfSome blocks IsPlayable) }
+{
     let mut codes = Vec::new(alloc);
     codes.push(CodeBlock::new(CodeKind::Ob, 1, 0, Vec::new(alloc)))?;
     Ok(Blocks::of(codes, Vec::new(alloc)))
