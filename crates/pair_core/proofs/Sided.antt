@@ -29,10 +29,12 @@ use Rattle.pair_core.specs.Lives.StretchEnd.{lost_at as is_lost_at}
 use Rattle.pair_core.specs.Played.{answers_of, IsSideOf}
 use Rattle.pair_core.specs.World.{Setup, World, part, standing_in, is_open, is_pending, has_shown, is_down, is_behind, ended}
 use Rattle.pair_core.specs.Finished.{ended_by}
-use Rattle.pair_core.specs.Places.{lives_of, IsAt}
+use Rattle.pair_core.specs.Places.{lives_of, StandsAfter, IsAt}
+use Rattle.pair_core.specs.Text.{HasTail}
 use Rattle.pair_core.specs.Good.{IsSameSide, Good}
 use Rattle.pair_core.proofs.Losses.{comes_back, lawful_stays, not_lost, ran_first}
 use Rattle.pair_core.proofs.Logs.{down_is, down_by}
+use Rattle.pair_core.proofs.Opens.{take_all}
 use Rattle.pair_core.proofs.Runs.{Means, ended_means}
 
 -- a loss for suspicion
@@ -182,3 +184,27 @@ side_of p w s sub good at_own = record {
       subst (λ l. Stands p.program l sub.machine) (sym taken) stands
       );
 }
+
+-- a run that has a tail is closed, and each side that runs has taken all entries
+ends_whole : (p : Setup) (w : World) (s : Side) (o : Option Ended) → Means p w o → HasTail (unwrap_or o Spent) → runs (standing_in p w.log) s ≡ true
+    → IsSameSide p w.log s (part w s) → (is_open p w.log ≡ false) × ((part w s).place ≡ length w.log.entries)
+ends_whole p w s (Some End) m tail run h = (m.0, all_taken p w s m.3 m.4 run h)
+ends_whole p w s (Some (Stop code)) m tail run h = (m.0, all_taken p w s m.2 m.3 run h)
+ends_whole p w s (Some NoneLeft) m tail run h = absurd tail
+ends_whole p w s (Some Spent) m tail run h = absurd m
+ends_whole p w s (Some NotPlayed) m tail run h = absurd m
+ends_whole p w s None m tail run h = absurd tail
+
+closed_up : (on cut late same pending shown : Bool) → on ≡ false → down_by on cut late same pending shown ≡ false
+closed_up false cut late same pending shown h = refl
+closed_up true cut late same pending shown h = absurd cc
+
+-- of a run that has a tail, the machine of each side that runs is the standard CPU's after all entries
+pub last_stands : (p : Setup) (w : World) (s : Side) (sub : Part) → Good p w → HasTail (ended_by p w) → runs (standing_in p w.log) s ≡ true
+    → IsAt p.program (part w s) w.log.entries sub → StandsAfter p.program w.log.entries sub.machine
+last_stands p w s sub good tail run at_own =
+    let n = length w.log.entries in
+    let whole = ends_whole p w s (ended p w) (ended_means p w) tail run (good.sides s) in
+    let up : is_down p w.log s ≡ false = down_is p w.log s ∙ closed_up (is_open p w.log) (is_cut p.plan s n) (is_late p.plan s n) (same_side s (standing_in p w.log).master) (is_pending w.log) (has_shown w.log s) whole.0 in
+    let alive = ((good.sides s).running run).alive up in
+    subst (λ es. StandsAfter p.program es sub.machine) (take_all w.log.entries (part w s).place whole.1) (at_own.machine alive)

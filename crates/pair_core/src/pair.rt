@@ -1,16 +1,17 @@
 //! The pair.
 ghost use Rattle.std.specs.Prelude.{true, ◌≡◌, ◌||◌, is_some, length, IfOk};
 ghost use mathlib.Core.List.{IsPrefix};
-ghost use Rattle.pair_core.specs.Sides.{other_side};
+ghost use Rattle.pair_core.specs.Sides.{other_side, runs};
 ghost use Rattle.pair_core.specs.Turns.{is_over};
 ghost use Rattle.pair_core.specs.World.{part, step, ended, standing_in, first_world};
 ghost use Rattle.pair_core.specs.SystemStates.{state_by};
-ghost use Rattle.pair_core.specs.Places.{IsAt};
+ghost use Rattle.pair_core.specs.Places.{IsAt, StandsAfter};
 ghost use Rattle.pair_core.specs.Good.{Good};
 ghost use Rattle.pair_core.specs.Finished.{ended_by, MayEnd};
 ghost use Rattle.pair_core.specs.Played.{IsRun, IsSideOf};
 ghost use Rattle.s7_base.specs.declared.entry.Side.{Side};
 ghost use Rattle.subsystem.specs.Part.{Part};
+ghost use Rattle.pair_core.specs.Text.{HasTail};
 
 use crate::own::{Own, Parts};
 use crate::standing::Standing;
@@ -176,6 +177,10 @@ impl Pair {
         ensures run { MayEnd self.setup self.world → IsRun self.setup.program self.setup.plan self.setup.solo self.world.log.entries self.world.log.shown result.2 }
         ensures sides { (side : Side) (sub : Part) → IsAt self.setup.program (part self.world side) self.world.log.entries sub
             → IsSideOf self.setup.program self.setup.plan self.setup.solo self.world.log.entries result.2 side sub }
+
+        // Where the run has a tail, the machine of each side that runs is the standard CPU's after all entries.
+        ensures last { HasTail result.2 → (side : Side) (sub : Part) → runs (standing_in self.setup self.world.log) side ≡ true
+            → IsAt self.setup.program (part self.world side) self.world.log.entries sub → StandsAfter self.setup.program self.world.log.entries sub.machine }
     {
         let ended = self.state.ended();
         prove!(spent || ended.is_some());

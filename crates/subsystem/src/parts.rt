@@ -1,10 +1,10 @@
 //! One side of the pair.
-ghost use Rattle.std.specs.Prelude.{◌≡◌, ◌<◌, ◌+◌, ◌^◌, ◌∷◌, [], ◌++◌, ◌↔◌, ℕ, List, length, slice_get, None, OnOk, OnErr, IfOk, IsTrue};
+ghost use Rattle.std.specs.Prelude.{◌≡◌, ◌<◌, ◌+◌, ◌^◌, ◌∷◌, [], ◌++◌, ◌↔◌, ℕ, false, List, length, slice_get, None, OnOk, OnErr, IfOk, IsTrue};
 ghost use Rattle.std.specs.Option.{option_map};
 ghost use Rattle.s7_base.specs.Blocks.{Program, IsPlayable};
 ghost use Rattle.s7_base.specs.declared.entry.Answer.{Answer};
 ghost use Rattle.s7_base.specs.declared.entry.Request.{Request};
-ghost use Rattle.mc_machine.specs.Stands.{CanAsk, CanTake, CanGoOn, IsAsked, IsIdle, WaitsAt, Stands, CpuWaits, OfRunning, HasSizes, byte_of, notes_of};
+ghost use Rattle.mc_machine.specs.Stands.{CanAsk, CanTake, CanGoOn, IsAsked, IsIdle, WaitsAt, Stands, CpuWaits, CpuStopped, OfRunning, HasSizes, byte_of, notes_of};
 ghost use Rattle.subsystem.specs.Part.{IsNew, IsOpen, first_life, TookOne};
 
 use mc_machine::Machine;
@@ -92,7 +92,10 @@ impl Subsystem {
 
     /// Whether a life is open and its CPU has not stopped.
     pub fn can_ask(&self) -> bool
-        ensures { IsTrue result ↔ CanAsk self.now.machine }
+        ensures answer { IsTrue result ↔ CanAsk self.now.machine }
+        // where a life is open and its CPU cannot be asked, it has stopped after the answers that were taken
+        ensures stops { result ≡ false → IsOpen self.now → (program : Program) (given : List Answer) → Stands program given self.now.machine
+            → CpuStopped program given self.now.machine }
     {
         self.is_open && !self.machine.stopped()
     }

@@ -1,11 +1,16 @@
 use crate::line::Line;
-use crate::printer::print_all;
+use crate::printer::{print, print_all};
 use crate::tail::TailView;
 use crate::writing::SinkFault;
-use pair_core::{Ended, Mode};
+use event_record::Record;
+use pair_core::{Ended, Mode, Shown};
 use pair_io::MemSink;
-use s7_base::{Answer, Area, Ask, DiagCode, Entry, Job, JobArea, Loss, Request, Side, StopCode};
+use s7_base::{
+    Answer, Area, Ask, Blocks, CodeBlock, CodeKind, DiagCode, Entry, Job, JobArea, Loss, Request,
+    Side, StopCode,
+};
 use std::test::Fail;
+use subsystem::Subsystem;
 
 /// The notes and the images of a CPU.
 #[derive(Drop)]
@@ -227,9 +232,53 @@ fn runs_end_as_they_ended(rt: HostRuntime) -> Result<(), Fail> {
             failing.push(number)?;
         }
         let mut sink = MemSink::new(alloc, 4000, failing)?;
-        let printed = print_all(&mut sink, &mut Line::new(), mode, &entries, &shown, ended, Some(&make_cpu()));
+        let printed = print_all(
+            &mut sink,
+            &mut Line::new(),
+            mode,
+            &entries,
+            &shown,
+            ended,
+            Some(&make_cpu()),
+        );
         assert_eq!(rt; printed, answer);
         assert_eq!(rt; sink.written(), text);
     }
+    Ok(())
+}
+
+const WHOLE: &[u8] =
+    b"TRACE 1 SOLO\n0 1 OUT - = DONE\nSHOW A\nDIAG 1\n0 START\nI -\nQ -\nM -\nEND 1\n";
+
+#[test]
+fn a_side_shows_its_tail(rt: HostRuntime) -> Result<(), Fail> {
+    let alloc = rt.alloc();
+    let main = CodeBlock::new(CodeKind::Ob, 1, 0, Vec::new(alloc));
+    let Some(blocks) = Blocks::of(vec![in alloc; main]?, Vec::new(alloc)) else {
+        return Err("not well formed".into());
+    };
+    let (Ok(mut side), Ok(mut record), Ok(mut shown)) = (
+        Subsystem::new(alloc),
+        Record::with_room(alloc, 1),
+        Shown::with_room(alloc, 1),
+    ) else {
+        return Err("no memory".into());
+    };
+    if side.load(alloc, &blocks).is_err() {
+        return Err("no memory".into());
+    }
+    record.append(entry(1, Ask::Outputs([0; 64]), Answer::Done));
+    shown.add(0, Side::A);
+    let mut sink = MemSink::new(alloc, 200, Vec::new(alloc))?;
+    let printed = print(
+        &mut sink,
+        Mode::Solo,
+        &record,
+        &shown,
+        &Ended::End,
+        Some(&side),
+    );
+    assert_eq!(rt; printed, Ok(()));
+    assert_eq!(rt; sink.written(), WHOLE);
     Ok(())
 }
