@@ -1,16 +1,7 @@
 pub mod Due
-pub mod ImageLaws
 pub mod Numbers
 pub mod Pieces
-pub mod PlayedOut
-pub mod Plays
-pub mod Rising
-pub mod ScriptLaws
-pub mod ScriptLines
-pub mod ScriptLoop
 pub mod Serves
-pub mod Snoc
 pub mod SourceBlocks
 pub mod SourceLaws
 pub mod SourceLoop
-pub mod Uncut
