@@ -8,6 +8,7 @@ pub mod Logs
 pub mod Losses
 pub mod Opens
 pub mod Overs
+pub mod Progress
 pub mod Runs
 pub mod Sided
 pub mod Snoc

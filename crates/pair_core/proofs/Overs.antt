@@ -14,7 +14,7 @@ use Rattle.pair_core.specs.Turns.{is_over}
 use Rattle.pair_core.specs.World.{Setup, World, part, part_in, with_part, standing_in, is_down, is_pending, has_shown, must_wait, waits_for_other, ended, unless_over, choose, next_entry, appended, acted, step}
 use Rattle.pair_core.specs.Good.{OverIsEnded}
 
-abbrev NotOver : Act → Type 0
+abbrev pub NotOver : Act → Type 0
 NotOver (Over ending) = ⊥
 NotOver Dead = Unit {0}
 NotOver Take = Unit {0}
@@ -24,7 +24,7 @@ NotOver Unmarked = Unit {0}
 NotOver Behind = Unit {0}
 NotOver Append = Unit {0}
 
-abbrev inner : Bool → Bool → Bool → Bool → Bool → Bool → Act
+abbrev pub inner : Bool → Bool → Bool → Bool → Bool → Bool → Act
 inner dead taken pending wait shown behind =
     if dead then Dead else (if taken then Take else (if pending then (if wait then Unmarked else (if shown then Mark else Show)) else (if behind then Behind else Append)))
 
@@ -37,20 +37,20 @@ inner_not false false true false false b = tt
 inner_not false false false u h true = tt
 inner_not false false false u h false = tt
 
-abbrev inner_of : Setup → World → Side → Act
+abbrev pub inner_of : Setup → World → Side → Act
 inner_of p w s =
     inner (is_down p w.log s || not (runs (standing_in p w.log) s)) (nat_lt (part w s).place (length w.log.entries)) (is_pending w.log)
     (must_wait p w.log s) (has_shown w.log s) (waits_for_other p w s)
 
-choose_is : (p : Setup) (w : World) (s : Side) → choose p w s ≡ unless_over (ended p w) (inner_of p w s)
+pub choose_is : (p : Setup) (w : World) (s : Side) → choose p w s ≡ unless_over (ended p w) (inner_of p w s)
 unfolding choose
 choose_is p w s = refl
 
-abbrev Chosen : Setup → World → Side → Option Ended → Type 0
+abbrev pub Chosen : Setup → World → Side → Option Ended → Type 0
 Chosen p w s None = NotOver (choose p w s)
 Chosen p w s (Some ending) = choose p w s ≡ Over ending
 
-chosen : (p : Setup) (w : World) (s : Side) (o : Option Ended) → ended p w ≡ o → Chosen p w s o
+pub chosen : (p : Setup) (w : World) (s : Side) (o : Option Ended) → ended p w ≡ o → Chosen p w s o
 chosen p w s None is =
     subst NotOver (sym (choose_is p w s ∙ ap (λ o. unless_over o (inner_of p w s)) is))
     (inner_not (is_down p w.log s || not (runs (standing_in p w.log) s)) (nat_lt (part w s).place (length w.log.entries)) (is_pending w.log)

@@ -11,6 +11,7 @@ pub mod Lives
 pub mod Losses
 pub mod Places
 pub mod Played
+pub mod Progress
 pub mod Showings
 pub mod Sides
 pub mod Stops

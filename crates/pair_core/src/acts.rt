@@ -1,9 +1,9 @@
 //! What a visit does.
-ghost use Rattle.std.specs.Prelude.{◌≡◌, ◌+◌, ◌*◌, ◌<◌, ◌++◌, ◌∷◌, [], length, Some};
+ghost use Rattle.std.specs.Prelude.{◌≡◌, ◌+◌, ◌*◌, ◌<◌, ◌++◌, ◌∷◌, [], true, length, Some, is_some};
 ghost use Rattle.mc_machine.specs.Stands.{IsAsked};
 ghost use Rattle.pair_core.specs.declared.turns.Act as Act;
 ghost use Rattle.pair_core.specs.Turns.{answer_at};
-ghost use Rattle.pair_core.specs.World.{part_in, with_part, acted, standing_in, with_entry};
+ghost use Rattle.pair_core.specs.World.{part_in, with_part, acted, standing_in, next_entry, with_entry};
 ghost use Rattle.pair_core.specs.Kept.{setup_of, log_of, world_of, IsKept, CanAct};
 ghost use Rattle.pair_core.specs.Places.{IsAt};
 ghost use Rattle.pair_core.specs.Good.{GoodLog};
@@ -111,6 +111,8 @@ impl State {
         requires at { IsAt self.old.program (part_in self.old.parts side) self.old.log.entries sub.old }
         ensures world { world_of self.new ≡ (acted (setup_of self.old) (world_of self.old) side Act.Append).world }
         ensures turn { result ≡ (acted (setup_of self.old) (world_of self.old) side Act.Append).answer }
+        // an entry comes next
+        ensures next { is_some (next_entry (setup_of self.old) (log_of self.old)) ≡ true }
         ensures setup { setup_of self.new ≡ setup_of self.old }
         ensures kept { IsKept self.new }
         ensures at { IsAt self.new.program (part_in self.new.parts side) self.new.log.entries sub.new }
@@ -161,6 +163,8 @@ impl State {
         requires at { IsAt self.old.program (part_in self.old.parts side) self.old.log.entries sub.old }
         ensures world { world_of self.new ≡ (acted (setup_of self.old) (world_of self.old) side act).world }
         ensures turn { result ≡ (acted (setup_of self.old) (world_of self.old) side act).answer }
+        // where one is to be appended, an entry comes next
+        ensures next { act ≡ Act.Append → is_some (next_entry (setup_of self.old) (log_of self.old)) ≡ true }
         ensures setup { setup_of self.new ≡ setup_of self.old }
         ensures kept { IsKept self.new }
         ensures at { IsAt self.new.program (part_in self.new.parts side) self.new.log.entries sub.new }

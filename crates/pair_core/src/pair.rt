@@ -1,5 +1,5 @@
 //! The pair.
-ghost use Rattle.std.specs.Prelude.{true, ◌≡◌, ◌||◌, is_some, length, IfOk};
+ghost use Rattle.std.specs.Prelude.{ℕ, true, false, ◌≡◌, ◌+◌, ◌||◌, Some, is_some, length, IfOk};
 ghost use mathlib.Core.List.{IsPrefix};
 ghost use Rattle.pair_core.specs.Sides.{other_side, runs};
 ghost use Rattle.pair_core.specs.Turns.{is_over};
@@ -9,7 +9,11 @@ ghost use Rattle.pair_core.specs.Places.{IsAt, StandsAfter};
 ghost use Rattle.pair_core.specs.Good.{Good};
 ghost use Rattle.pair_core.specs.Finished.{ended_by, MayEnd};
 ghost use Rattle.pair_core.specs.Played.{IsRun, IsSideOf};
+ghost use Rattle.pair_core.specs.Progress.{IsAlone};
 ghost use Rattle.s7_base.specs.declared.entry.Side.{Side};
+ghost use Rattle.s7_base.specs.declared.entry.Side.TheVariants.{A};
+ghost use Rattle.pair_core.specs.declared.endings.Ended.{Ended};
+ghost use Rattle.pair_core.specs.declared.turns.Turn.TheVariants as turns;
 ghost use Rattle.subsystem.specs.Part.{Part};
 ghost use Rattle.pair_core.specs.Text.{HasTail};
 
@@ -51,6 +55,7 @@ impl Pair {
         ensures setup { IfOk result (λ pair. pair.setup ≡ record { program = blocks.now; plan = script; solo = solo }) }
         ensures world { IfOk result (λ pair. pair.world ≡ first_world solo) }
         ensures good { IfOk result (λ pair. Good pair.setup pair.world) }
+        ensures alone { solo ≡ true → IfOk result (λ pair. IsAlone pair.setup pair.world 0) }
     {
         let end = script.end();
         let program = blocks.copy(alloc)?;
@@ -105,6 +110,12 @@ impl Pair {
         ensures other { (other : Part) → IsAt self.old.setup.program (part self.old.world (other_side side)) self.old.world.log.entries other
             → IsAt self.new.setup.program (part self.new.world (other_side side)) self.new.world.log.entries other }
         ensures over { is_over result ≡ true → (part self.new.world side).over ≡ true }
+
+        // It is answered Over where the run has ended, and then leaves the log. Alone, side A comes to that: each other
+        // visit does one more of at most 3 × END things, so one of any 3 × END + 1 visits is answered Over.
+        ensures told { (ending : Ended) → ended self.old.setup self.old.world ≡ Some ending → (result ≡ turns.Over ending) × (self.new.world.log ≡ self.old.world.log) }
+        ensures ended { is_over result ≡ true → is_some (ended self.new.setup self.new.world) ≡ true }
+        ensures alone { side ≡ A → (visits : ℕ) → IsAlone self.old.setup self.old.world visits → is_over result ≡ false → IsAlone self.new.setup self.new.world (visits + 1) }
     {
         let act = self.state.choose(side);
         self.state.act(side, act, sub)

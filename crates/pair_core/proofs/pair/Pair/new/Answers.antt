@@ -3,7 +3,9 @@ use Rattle.s7_base.specs.declared.entry.Side.TheVariants.{A, B}
 use Rattle.pair_core.specs.Sides.{standing}
 use Rattle.pair_core.specs.World.{Setup, shown_past, first_world}
 use Rattle.pair_core.specs.Good.{Good}
+use Rattle.pair_core.specs.Progress.{IsAlone}
 use Rattle.pair_core.proofs.Visits.{good_first}
+use Rattle.pair_core.proofs.Progress.{alone_first}
 use Rattle.pair_core.proofs.pair.Pair.new.Goals as goal
 
 pub invariant_of-result : goal.invariant_of-result
@@ -25,3 +27,12 @@ invariant_of-result c =
           (subst (λ xs. Good setup (record { log = record { entries = []; shown = xs; marked = 0 }; parts = (first_world c.args.solo).parts })) (sym unshown)
           (good_first setup c.end-end.ensures.form)),
     )
+
+pub returns-clause-alone : goal.returns-clause-alone
+returns-clause-alone c = λ alone.
+    let none : c.in_ok-log.log.entries ≡ [] = ap (λ l. l.entries) c.in_ok-log.ensures in
+    let unshown : c.in_ok-shown.shown.list ≡ [] = ap (λ l. l.list) c.in_ok-shown.ensures in
+    let setup : Setup = record { program = c.in_ok-program.program; plan = c.args.script; solo = c.args.solo } in
+    subst (λ es. IsAlone setup (record { log = record { entries = es; shown = c.in_ok-shown.shown.list; marked = 0 }; parts = (first_world c.args.solo).parts }) 0) (sym none)
+    (subst (λ xs. IsAlone setup (record { log = record { entries = []; shown = xs; marked = 0 }; parts = (first_world c.args.solo).parts }) 0) (sym unshown)
+    (alone_first setup alone))

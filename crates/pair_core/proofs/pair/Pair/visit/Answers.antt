@@ -1,11 +1,13 @@
-use Rattle.std.proofs.Common.{ap, ◌∙◌, sym, subst}
+use Rattle.std.proofs.Common.{◌≡◌, ap, ◌∙◌, Some, sym, subst}
 use Rattle.pair_core.specs.declared.turns.Act.{Act}
 use Rattle.pair_core.specs.Sides.{other_side}
-use Rattle.pair_core.specs.World.{World, Game, part, acted, step}
+use Rattle.pair_core.specs.World.{World, Game, part, acted, ended, step}
 use Rattle.pair_core.specs.Kept.{setup_of, world_of}
 use Rattle.pair_core.specs.Places.{IsAt}
 use Rattle.pair_core.proofs.Grows.{moved, other_stays, grows, apart}
+use Rattle.pair_core.specs.Progress.{IsAlone}
 use Rattle.pair_core.proofs.Visits.{keeps}
+use Rattle.pair_core.proofs.Progress.{step_is, told_visit, ended_visit, alone_visit}
 use Rattle.pair_core.proofs.pair.Pair.visit.Goals as goal
 
 pub returns-clause-good : goal.returns-clause-good
@@ -38,3 +40,26 @@ returns-clause-other c = λ other at_other.
     moved (setup_of state) (setup_of c.act.new.self) (step (setup_of state) (world_of state) c.args.side).world (world_of c.act.new.self) (other_side c.args.side) other c.act.ensures.setup
     (c.act.ensures.world ∙ ap (λ (act : Act). (acted (setup_of state) (world_of state) c.args.side act).world) c.choose-act.ensures)
     (other_stays (setup_of state) (world_of state) c.args.side other c.self.invariant.1 old)
+
+pub returns-clause-told : goal.returns-clause-told
+returns-clause-told c = λ ending is.
+    let state = c.self.inside.state in
+    let old : ended (setup_of state) (world_of state) ≡ Some ending = ap (λ (g : Game). ended g.setup g.world) c.self.view_is ∙ is in
+    let told = told_visit (setup_of state) (setup_of c.act.new.self) (world_of state) (world_of c.act.new.self) c.args.side c.act.result ending
+    (step_is (setup_of state) (setup_of c.act.new.self) (world_of state) (world_of c.act.new.self) c.args.side c.act.result c.choose-act.result c.choose-act.ensures c.act.ensures.setup c.act.ensures.world c.act.ensures.turn) old in
+    (told.0, told.1 ∙ ap (λ (g : Game). g.world.log) c.self.view_is)
+
+pub returns-clause-ended : goal.returns-clause-ended
+returns-clause-ended c = λ over.
+    let state = c.self.inside.state in
+    ended_visit (setup_of state) (setup_of c.act.new.self) (world_of state) (world_of c.act.new.self) c.args.side c.act.result
+    (step_is (setup_of state) (setup_of c.act.new.self) (world_of state) (world_of c.act.new.self) c.args.side c.act.result c.choose-act.result c.choose-act.ensures c.act.ensures.setup c.act.ensures.world c.act.ensures.turn)
+    c.self.invariant.0.plan c.self.invariant.1 over
+
+pub returns-clause-alone : goal.returns-clause-alone
+returns-clause-alone c = λ same visits alone on.
+    let state = c.self.inside.state in
+    let old : IsAlone (setup_of state) (world_of state) visits = subst (λ (g : Game). IsAlone g.setup g.world visits) (sym c.self.view_is) alone in
+    alone_visit (setup_of state) (setup_of c.act.new.self) (world_of state) (world_of c.act.new.self) c.args.side c.act.result visits
+    (step_is (setup_of state) (setup_of c.act.new.self) (world_of state) (world_of c.act.new.self) c.args.side c.act.result c.choose-act.result c.choose-act.ensures c.act.ensures.setup c.act.ensures.world c.act.ensures.turn)
+    c.self.invariant.0.plan c.self.invariant.1 (λ append. c.act.ensures.next (c.choose-act.ensures ∙ append)) same old on
