@@ -1,5 +1,5 @@
 //! Plays a pair by visits.
-ghost use Rattle.std.specs.Prelude.{◌≡◌, ◌≤◌, true, is_some};
+ghost use Rattle.std.specs.Prelude.{◌≡◌, ◌≤◌, true, false, is_some};
 ghost use Rattle.subsystem.specs.Part.{IsOpen};
 ghost use Rattle.pair_core.specs.World.{part, ended, first_part};
 ghost use Rattle.pair_core.specs.Places.{IsAt};

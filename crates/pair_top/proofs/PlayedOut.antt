@@ -1,0 +1,45 @@
+-- A play of side A alone that has come to its end.
+use Rattle.std.proofs.Common.{◌≡◌, true, false, List, Option, Some, None, ap, ◌∙◌, sym, subst, inl, inr}
+use Rattle.s7_base.specs.declared.entry.Request.{Request}
+use Rattle.s7_base.specs.declared.entry.Answer.{Answer}
+use Rattle.s7_base.specs.declared.entry.Entry.{Entry}
+use Rattle.s7_base.specs.Blocks.{Program}
+use Rattle.mc_machine.specs.Meaning.{State}
+use Rattle.mc_machine.specs.Stands.{Running, Shows, Stands, IsRunning, CanAsk, CpuWaits, CpuStopped}
+use Rattle.subsystem.specs.Part.{Part, IsNew}
+use Rattle.pair_core.specs.declared.own.Own.{Own}
+use Rattle.pair_core.specs.CpuTail.{noted, tail_of, tail_of_state}
+use Rattle.pair_core.specs.World.{first_part}
+use Rattle.pair_core.specs.Places.{lives_of, IsAt}
+use Rattle.pair_top.specs.Serving.{ComesTo}
+
+-- what a machine shows of a state is the tail of the state
+same_tail : (running : Running) (state : State) → Shows running state → tail_of (Some running) ≡ tail_of_state state
+same_tail running state shows =
+    ap (λ m. record { notes = noted running.config.diag; inputs = m.inputs; outputs = m.outputs; flags = m.flags }) shows.memory
+    ∙ ap (λ d. record { notes = noted d; inputs = state.memory.inputs; outputs = state.memory.outputs; flags = state.memory.flags }) shows.diag
+
+pub comes_waiting : (program : Program) (given : List Answer) (request : Request) (machine : Option Running) → CpuWaits program given request machine → ComesTo program given (tail_of machine)
+comes_waiting program given request None waits = absurd waits
+comes_waiting program given request (Some running) waits = (waits.0, inl (request, waits.1), same_tail running waits.0 waits.2)
+
+pub comes_stopped : (program : Program) (given : List Answer) (machine : Option Running) → CpuStopped program given machine → ComesTo program given (tail_of machine)
+comes_stopped program given None stops = absurd stops
+comes_stopped program given (Some running) stops = (stops.0, inr stops.1, same_tail running stops.0 stops.2)
+
+pub runs_standing : (program : Program) (given : List Answer) (machine : Option Running) → Stands program given machine → IsRunning machine
+runs_standing program given None stands = absurd stands
+runs_standing program given (Some running) stands = cc
+
+-- a machine that can be asked is one of a life that is open
+alive_by : (alive : _) (machine : Option Running) → CanAsk machine → (alive ≡ false → machine ≡ None) → alive ≡ true
+alive_by true machine can idle = cc
+alive_by false machine can idle = absurd (subst CanAsk (idle cc) can)
+
+pub alive_asked : (program : Program) (own : Own) (es : List Entry) (s : Part) → CanAsk s.machine → IsAt program own es s → own.alive ≡ true
+alive_asked program own es s can at_own = alive_by own.alive s.machine can at_own.idle
+
+-- a new side stands for one that does not run, at whatever entry
+pub new_stands : (program : Program) (own : Own) (es : List Entry) (s : Part) → own ≡ first_part false → IsNew s → IsAt program own es s
+new_stands program own es s is new =
+    subst (λ o. IsAt program o es s) (sym is) (record { lives = new.lives; idle = λ dead. new.machine; machine = λ alive. absurd cc })
