@@ -1,4 +1,5 @@
 pub mod Added
+pub mod Advances
 pub mod Answers
 pub mod Bounds
 pub mod Grows

@@ -7,6 +7,7 @@ use Rattle.plant_script.specs.InputImage.{Image, IsImageOf}
 use Rattle.pair_core.specs.declared.turns.Act.{Act}
 use Rattle.pair_core.specs.declared.turns.Act.TheVariants.{Over, Dead, Take, Show, Mark, Unmarked, Behind, Append}
 use Rattle.pair_core.specs.declared.state.State.{State}
+use Rattle.pair_core.specs.CutsKept.{IsCutsAt}
 use Rattle.pair_core.specs.World.{Setup, Log, World, Game, part, standing_in, shown_past, is_open}
 
 abbrev pub setup_of : State → Setup
@@ -31,6 +32,7 @@ pub record IsKept (s : State) : Type 0 where
   pub shown_a : s.shown_by_a ≡ shown_past s.shown.list A
   pub shown_b : s.shown_by_b ≡ shown_past s.shown.list B
   pub image : IsImageBefore s.script (length s.log.entries) s.image
+  pub cuts : IsCutsAt s.script (length s.log.entries) s.cuts
   pub few : length s.log.entries ≤ s.script.end
   pub plan : IsPlan s.script
   pub room : s.log.room ≡ s.script.end

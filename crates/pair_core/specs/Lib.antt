@@ -1,5 +1,6 @@
 pub mod CpuTail
 pub mod Cuts
+pub mod CutsKept
 pub mod Endings
 pub mod EntryText
 pub mod Finished

@@ -8,7 +8,6 @@ ghost use Rattle.pair_core.specs.Kept.{setup_of, log_of, world_of, IsKept, CanAc
 ghost use Rattle.pair_core.specs.Places.{IsAt};
 ghost use Rattle.pair_core.specs.Good.{GoodLog};
 
-use crate::cuts::is_cut;
 use crate::own::Own;
 use crate::sides::other;
 use crate::state::{State, plain_answer};
@@ -27,21 +26,21 @@ impl State {
         ensures setup { setup_of self.new ≡ setup_of self.old }
         ensures kept { IsKept self.new }
     {
-        let moment = self.len();
         if self.standing.a && self.standing.b {
-            if is_cut(&self.script, Side::A, moment) {
+            if self.is_cut(Side::A) {
                 return Answer::Lost {
                     side: Side::A,
                     why: Loss::Failed,
                 };
             }
-            if is_cut(&self.script, Side::B, moment) {
+            if self.is_cut(Side::B) {
                 return Answer::Lost {
                     side: Side::B,
                     why: Loss::Failed,
                 };
             }
         }
+        let moment = self.len();
         plain_answer(&self.script, &mut self.image, ask, moment)
     }
 
@@ -56,6 +55,7 @@ impl State {
     {
         self.standing = self.standing.after(&entry.answer);
         self.log.append(entry);
+        self.cuts = self.cuts.advance(&self.script, self.log.len());
     }
 
     /// The side shows the last output.

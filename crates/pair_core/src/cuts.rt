@@ -1,6 +1,7 @@
-//! Which side the script stops.
+//! Which side the script stops, as the moments go on.
 ghost use Rattle.std.specs.Prelude.{◌≡◌};
-ghost use Rattle.pair_core.specs.Cuts.{by_line, soundness, is_cut, is_late};
+ghost use Rattle.pair_core.specs.Cuts.{by_line, is_failed, is_failed_late};
+ghost use Rattle.pair_core.specs.CutsKept.{IsCutsBefore, IsCutsAt, sound_in};
 
 use crate::sides::is_same;
 use plant_script::{Script, What};
@@ -15,6 +16,28 @@ pub enum Soundness {
     Failed,
     /// It has failed, but shows its last output first if it is master.
     FailedLate,
+}
+
+impl Soundness {
+    /// Whether the script stops the side.
+    pub fn is_failed(self) -> bool
+        ensures { result ≡ is_failed self }
+    {
+        match self {
+            Soundness::Sound => false,
+            Soundness::Failed | Soundness::FailedLate => true,
+        }
+    }
+
+    /// Whether the line that stops it says that it is late.
+    pub fn is_failed_late(self) -> bool
+        ensures { result ≡ is_failed_late self }
+    {
+        match self {
+            Soundness::FailedLate => true,
+            Soundness::Sound | Soundness::Failed => false,
+        }
+    }
 }
 
 /// What a line makes of a side.
@@ -34,37 +57,56 @@ fn by_line(what: What, side: Side, before: Soundness) -> Soundness
     }
 }
 
-/// What all lines that are not later than the moment make of a side.
-fn soundness_at(script: &Script, side: Side, moment: u32) -> Soundness
-    ensures { result ≡ soundness script.now side moment }
-{
-    let mut found = Soundness::Sound;
-    for event in script.events() {
-        if event.moment <= moment {
-            found = by_line(event.what, side, found);
+/// What the script's lines made of both sides up to a moment, and how many lines these are.
+#[derive(Clone, Copy, Debug)]
+pub struct Cuts {
+    pub applied: usize,
+    pub a: Soundness,
+    pub b: Soundness,
+}
+
+impl Cuts {
+    /// At moment 0.
+    pub fn new(script: &Script) -> Cuts
+        ensures { IsCutsAt script.now 0 result }
+    {
+        let none = Cuts {
+            applied: 0,
+            a: Soundness::Sound,
+            b: Soundness::Sound,
+        };
+        none.advance(script, 0)
+    }
+
+    /// At this moment, not before the one at which they are. All calls together take as long as one pass over the
+    /// lines.
+    pub fn advance(self, script: &Script, moment: u32) -> Cuts
+        requires { IsCutsBefore script.now moment self }
+        ensures { IsCutsAt script.now moment result }
+    {
+        let mut cuts = self;
+        let events = script.events();
+        for at in self.applied..events.len() {
+            let event = events[at];
+            if event.moment > moment {
+                return cuts;
+            }
+            cuts = Cuts {
+                applied: at + 1,
+                a: by_line(event.what, Side::A, cuts.a),
+                b: by_line(event.what, Side::B, cuts.b),
+            };
         }
+        cuts
     }
-    found
-}
 
-/// Whether the script stops the side at the moment.
-#[tactic(auto, unfolding(crate::specs::Cuts::is_cut))]
-pub fn is_cut(script: &Script, side: Side, moment: u32) -> bool
-    ensures { result ≡ is_cut script.now side moment }
-{
-    match soundness_at(script, side, moment) {
-        Soundness::Sound => false,
-        Soundness::Failed | Soundness::FailedLate => true,
-    }
-}
-
-/// Whether the line that stops it says that it is late.
-#[tactic(auto, unfolding(crate::specs::Cuts::is_late))]
-pub fn is_late(script: &Script, side: Side, moment: u32) -> bool
-    ensures { result ≡ is_late script.now side moment }
-{
-    match soundness_at(script, side, moment) {
-        Soundness::FailedLate => true,
-        Soundness::Sound | Soundness::Failed => false,
+    /// What they made of a side.
+    pub fn soundness_of(&self, side: Side) -> Soundness
+        ensures { result ≡ sound_in self.now side }
+    {
+        match side {
+            Side::A => self.a,
+            Side::B => self.b,
+        }
     }
 }

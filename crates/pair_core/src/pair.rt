@@ -17,6 +17,7 @@ ghost use Rattle.pair_core.specs.declared.turns.Turn.TheVariants as turns;
 ghost use Rattle.subsystem.specs.Part.{Part};
 ghost use Rattle.pair_core.specs.Text.{HasTail};
 
+use crate::cuts::Cuts;
 use crate::own::{Own, Parts};
 use crate::standing::Standing;
 use crate::state::State;
@@ -58,6 +59,7 @@ impl Pair {
         ensures alone { solo ≡ true → IfOk result (λ pair. IsAlone pair.setup pair.world 0) }
     {
         let end = script.end();
+        let cuts = Cuts::new(&script);
         let program = blocks.copy(alloc)?;
         let log = Record::with_room(alloc, end)?;
         let shown = Shown::with_room(alloc, 2 * end)?;
@@ -88,6 +90,7 @@ impl Pair {
                 shown_by_a: 0,
                 shown_by_b: 0,
                 image: InputImage::new(),
+                cuts,
             },
         })
     }

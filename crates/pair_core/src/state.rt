@@ -12,7 +12,7 @@ ghost use Rattle.pair_core.specs.Kept.{setup_of, log_of, world_of, IsKept, IsIma
 ghost use Rattle.pair_core.specs.Places.{IsAt};
 ghost use Rattle.pair_core.specs.Good.{GoodLog};
 
-use crate::cuts::{is_cut, is_late};
+use crate::cuts::Cuts;
 use crate::own::{Own, Parts};
 use crate::sides::{is_same, other};
 use crate::standing::Standing;
@@ -25,7 +25,7 @@ use subsystem::Subsystem;
 
 /// All that the pair keeps: what it is made for, the record and the showings, one past the last output that is
 /// marked, what is kept of each side, and what follows from these: who runs, one past the last entry that each
-/// side showed, and the input image.
+/// side showed, the input image, and what the script made of the sides.
 #[derive(Debug, Drop)]
 pub struct State {
     pub program: Blocks,
@@ -39,6 +39,7 @@ pub struct State {
     pub shown_by_a: u32,
     pub shown_by_b: u32,
     pub image: InputImage,
+    pub cuts: Cuts,
 }
 
 /// The code with which an entry stops the CPU.
@@ -140,17 +141,34 @@ impl State {
         past == self.len()
     }
 
+    /// Whether the script stops the side now.
+    #[tactic(auto, unfolding(crate::specs::Cuts::is_cut))]
+    pub fn is_cut(&self, side: Side) -> bool
+        requires { IsKept self.now }
+        ensures { result ≡ is_cut self.now.script side (length self.now.log.entries) }
+    {
+        self.cuts.soundness_of(side).is_failed()
+    }
+
+    /// Whether the line that stops it says that it is late.
+    #[tactic(auto, unfolding(crate::specs::Cuts::is_late))]
+    fn is_late(&self, side: Side) -> bool
+        requires { IsKept self.now }
+        ensures { result ≡ is_late self.now.script side (length self.now.log.entries) }
+    {
+        self.cuts.soundness_of(side).is_failed_late()
+    }
+
     /// Whether a visit finds the side cut: a late master first shows its last output.
     #[tactic(auto, unfolding(crate::specs::World::is_down))]
     pub fn is_down(&self, side: Side) -> bool
         requires { IsKept self.now }
         ensures { result ≡ is_down (setup_of self.now) (log_of self.now) side }
     {
-        let moment = self.len();
-        if !self.is_open() || !is_cut(&self.script, side, moment) {
+        if !self.is_open() || !self.is_cut(side) {
             return false;
         }
-        let shows_first = is_late(&self.script, side, moment)
+        let shows_first = self.is_late(side)
             && is_same(side, self.standing.master)
             && self.is_pending()
             && !self.has_shown(side);

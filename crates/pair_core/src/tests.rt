@@ -61,6 +61,9 @@ fn run(alloc: Global, script: &[u8], pattern: &[Side]) -> Result<(Record, Shown,
     let Some(blocks) = Blocks::of(vec![in alloc; main]?, Vec::new(alloc)) else {
         return Err("not well formed".into());
     };
+    if script.len() > 1_048_576 {
+        return Err("too long".into());
+    }
     let Ok(script) = read_script(alloc, script) else {
         return Err("not a script".into());
     };

@@ -4,8 +4,8 @@ use Rattle.pair_core.specs.Places.{IsAt}
 use Rattle.pair_core.proofs.tests.play_pattern.Given as goal
 
 -- both subsystems stand where the pair says
-abbrev pub invariant-loop-_ : goal.invariant-loop-_
-invariant-loop-_ l = record {
+abbrev pub invariant-loop : goal.invariant-loop
+invariant-loop l = record {
   a : IsAt l.pair.setup.program (part l.pair.world A) l.pair.world.log.entries l.a;
   b : IsAt l.pair.setup.program (part l.pair.world B) l.pair.world.log.entries l.b;
 }

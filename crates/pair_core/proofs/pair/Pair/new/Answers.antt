@@ -1,6 +1,7 @@
 use Rattle.std.proofs.Common.{◌≡◌, ◌∙◌, ◌*◌, [], length, ap, sym, subst, arith}
 use Rattle.s7_base.specs.declared.entry.Side.TheVariants.{A, B}
 use Rattle.pair_core.specs.Sides.{standing}
+use Rattle.pair_core.specs.CutsKept.{IsCutsAt}
 use Rattle.pair_core.specs.World.{Setup, shown_past, first_world}
 use Rattle.pair_core.specs.Good.{Good}
 use Rattle.pair_core.specs.Progress.{IsAlone}
@@ -18,6 +19,7 @@ invariant_of-result c =
         shown_a = ap (λ xs. shown_past xs A) (sym unshown);
         shown_b = ap (λ xs. shown_past xs B) (sym unshown);
         image = (0, omega arith, c.new.ensures c.args.script 0);
+        cuts = subst (λ k. IsCutsAt c.args.script k c.new-cuts.result) (sym (ap length none)) c.new-cuts.ensures;
         few = omega (arith, ap length none);
         plan = c.end-end.ensures.form;
         room = ap (λ l. l.room) c.in_ok-log.ensures ∙ c.end-end.ensures.value;
