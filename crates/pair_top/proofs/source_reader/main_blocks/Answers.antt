@@ -1,5 +1,4 @@
 use Rattle.std.proofs.Common.{◌≡◌, true, false, [], rules}
-use Rattle.s7_base.specs.Blocks.{Program, IsPlayable}
 use Rattle.s7_base.specs.Limits.{IsWellFormed}
 use Rattle.pair_top.specs.SourceText.{main_program}
 use Rattle.pair_top.proofs.SourceBlocks.{main_is_playable, main_is_well_formed}
