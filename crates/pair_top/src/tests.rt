@@ -6,7 +6,7 @@ use pair_io::{MemFiles, MemSink};
 use plant_script::ScriptFault;
 use std::alloc::{AllocError, Global};
 use std::test::Fail;
-use subsystem::{How, Subsystem};
+use subsystem::{How, Life, Subsystem};
 
 const SOURCE: &[u8] =
     b"ORGANIZATION_BLOCK OB 1\nBEGIN\nA I 0.0;\n= Q 0.0;\nEND_ORGANIZATION_BLOCK\n";
