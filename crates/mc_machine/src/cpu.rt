@@ -1,7 +1,7 @@
 //! The machine, whose inside its users do not see.
 ghost use Rattle.std.specs.Prelude.{◌≡◌, ℕ, ◌++◌, ◌∷◌, [], List, length, Option, Some, None, slice_get, false, IsTrue, OnOk, OnErr, ◌↔◌};
 ghost use Rattle.std.specs.Option.{option_map};
-ghost use Rattle.s7_base.specs.Blocks.{Program};
+ghost use Rattle.s7_base.specs.Blocks.{Program, IsPlayable};
 ghost use Rattle.mc_machine.specs.Stands.{IsIdle, IsRunning, CanAsk, CanTake, CanGoOn, IsAsked, HasStopped, WaitsAt, Stands, CpuWaits, CpuStopped, area_bytes, OfRunning, HasSizes, byte_of, notes_of};
 
 use crate::engine::Engine;
@@ -39,7 +39,9 @@ impl Machine {
 
     /// Runs from the start of the CPU. At `Err` it is idle still.
     pub fn load(&mut self, alloc: Global, blocks: &Blocks) -> Result<(), NoMemory>
-        requires { IsIdle self.old }
+        requires idle { IsIdle self.old }
+        // each statement of the program is one that the machine plays
+        requires playable { IsPlayable blocks.now }
         ensures ok { OnOk result (Stands blocks.now [] self.new) }
         ensures going { OnOk result (CanAsk self.new) }
         ensures err { OnErr result (self.new ≡ self.old) }

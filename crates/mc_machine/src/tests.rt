@@ -1,4 +1,5 @@
-ghost use Rattle.std.specs.Prelude.{◌≡◌, IsTrue, IfOk};
+ghost use Rattle.std.specs.Prelude.{◌≡◌, ◌≤◌, All, length, IsSome, IsTrue, IfOk};
+ghost use Rattle.s7_base.specs.Instruction.{instruction_of, IsPlaced};
 ghost use Rattle.mc_machine.specs.Meaning.{asked, is_built};
 ghost use Rattle.mc_machine.specs.Stands.{IsRunning};
 ghost use Rattle.mc_machine.specs.Rung.{rung, rung_answers, rung_requests};
@@ -18,7 +19,10 @@ fn the_definitions_play_the_rung()
     ensures { asked rung rung_answers ≡ rung_requests }
 {}
 
-fn bit(operation: BitOperation, area: BitArea, at_byte: u16, bit: u8) -> Statement {
+fn bit(operation: BitOperation, area: BitArea, at_byte: u16, bit: u8) -> Statement
+    requires { IsPlaced (record { operation = operation; area = area; at_byte = at_byte; bit = bit }) }
+    ensures { IsSome (instruction_of result) }
+{
     let instruction = BitInstruction {
         operation,
         area,
@@ -30,6 +34,8 @@ fn bit(operation: BitOperation, area: BitArea, at_byte: u16, bit: u8) -> Stateme
 
 /// A machine that was loaded with OB1 of these statements.
 fn machine_of(alloc: Global, statements: &[Statement]) -> Result<Machine, Fail>
+    requires few { length statements.now ≤ 256 }
+    requires each { All (λ s. IsSome (instruction_of s)) statements.now }
     ensures { IfOk result IsRunning }
 {
     let main = CodeBlock::new(CodeKind::Ob, 1, 0, statements.to_vec(alloc)?);
@@ -62,7 +68,10 @@ fn after_cycle(
     alloc: Global,
     program: &[Statement],
     byte: u8,
-) -> Result<[Option<u8>; 3], Fail> {
+) -> Result<[Option<u8>; 3], Fail>
+    requires few { length program.now ≤ 256 }
+    requires each { All (λ s. IsSome (instruction_of s)) program.now }
+{
     let mut machine = machine_of(alloc, program)?;
     let mut image = [0u8; 64];
     image[0] = byte;

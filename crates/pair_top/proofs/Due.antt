@@ -6,10 +6,10 @@ use Rattle.s7_base.specs.Blocks.{Program}
 use Rattle.pair_top.specs.declared.faults.Fault.{Fault}
 use Rattle.pair_top.specs.declared.faults.Fault.TheVariants.{Usage, FileFault, TooLong, SourceFault, ScriptFault, SinkFault, NoMemory, Differs}
 use Rattle.pair_top.specs.declared.reading.TheConstants.{LIMIT}
-use Rattle.pair_top.specs.Part.{Part}
-use Rattle.pair_top.specs.Plan.{Plan}
+use Rattle.subsystem.specs.Part.{Part}
+use Rattle.plant_script.specs.Plan.{Plan}
 use Rattle.pair_top.specs.SourceText.{IsSource}
-use Rattle.pair_top.specs.ScriptText.{IsScript}
+use Rattle.plant_script.specs.ScriptText.{IsScript}
 use Rattle.pair_top.specs.Reading.{File, WasRead, IsTooLong, IsAccepted, IsPlanned, IsNoSource, IsNoScript, HasFailed, source_not_built, script_not_built}
 use Rattle.pair_top.specs.Serving.{Written, Account, SoloServed, IsDue, IsDone, Tells, TellsTooMuch, TellsSource, TellsNoSource, TellsScript, TellsNoScript, GivesWhatIsDue}
 
@@ -57,8 +57,8 @@ script_stands file tells bad =
 
 module _ (source script : File) (sink : Written) (account : Account) (a b : Part) where
   long_source : TellsTooMuch source → (fault : Option Fault) → SoloServed source script sink account a b fault → IsDue 0 (TooLong 0) fault
-  long_source much None s = accepts_no_long source s.1.program much s.1.accepted
-  long_source much (Some SinkFault) s = absurd (accepts_no_long source s.1.program much s.1.accepted)
+  long_source much None s = accepts_no_long source s.0.program much s.0.accepted
+  long_source much (Some SinkFault) s = absurd (accepts_no_long source s.0.program much s.0.accepted)
   long_source much (Some NoMemory) s = tt
   long_source much (Some (FileFault zero)) s = omega arith
   long_source much (Some (FileFault (suc zero))) s = absurd (accepts_no_long source s.0.0 much s.0.1)
@@ -72,8 +72,8 @@ module _ (source script : File) (sink : Written) (account : Account) (a b : Part
   long_source much (Some (Differs line)) s = absurd s.0
 
   no_source : TellsNoSource source → (fault : Option Fault) → SoloServed source script sink account a b fault → IsDue 0 (SourceFault source_not_built) fault
-  no_source bad None s = accepts_a_source source s.1.program bad s.1.accepted
-  no_source bad (Some SinkFault) s = absurd (accepts_a_source source s.1.program bad s.1.accepted)
+  no_source bad None s = accepts_a_source source s.0.program bad s.0.accepted
+  no_source bad (Some SinkFault) s = absurd (accepts_a_source source s.0.program bad s.0.accepted)
   no_source bad (Some NoMemory) s = tt
   no_source bad (Some (FileFault zero)) s = omega arith
   no_source bad (Some (FileFault (suc zero))) s = absurd (accepts_a_source source s.0.0 bad s.0.1)
@@ -87,8 +87,8 @@ module _ (source script : File) (sink : Written) (account : Account) (a b : Part
   no_source bad (Some (Differs line)) s = absurd s.0
 
   long_script : TellsSource source → TellsTooMuch script → (fault : Option Fault) → SoloServed source script sink account a b fault → IsDue 1 (TooLong 1) fault
-  long_script is much None s = plans_no_long script s.1.plan much s.1.planned
-  long_script is much (Some SinkFault) s = absurd (plans_no_long script s.1.plan much s.1.planned)
+  long_script is much None s = plans_no_long script s.0.plan much s.0.planned
+  long_script is much (Some SinkFault) s = absurd (plans_no_long script s.0.plan much s.0.planned)
   long_script is much (Some NoMemory) s = tt
   long_script is much (Some (FileFault zero)) s = omega arith
   long_script is much (Some (FileFault (suc zero))) s = omega arith
@@ -102,8 +102,8 @@ module _ (source script : File) (sink : Written) (account : Account) (a b : Part
   long_script is much (Some (Differs line)) s = absurd s.0
 
   no_script : TellsSource source → TellsNoScript script → (fault : Option Fault) → SoloServed source script sink account a b fault → IsDue 1 (ScriptFault script_not_built) fault
-  no_script is bad None s = plans_a_script script s.1.plan bad s.1.planned
-  no_script is bad (Some SinkFault) s = absurd (plans_a_script script s.1.plan bad s.1.planned)
+  no_script is bad None s = plans_a_script script s.0.plan bad s.0.planned
+  no_script is bad (Some SinkFault) s = absurd (plans_a_script script s.0.plan bad s.0.planned)
   no_script is bad (Some NoMemory) s = tt
   no_script is bad (Some (FileFault zero)) s = omega arith
   no_script is bad (Some (FileFault (suc zero))) s = omega arith
@@ -119,7 +119,7 @@ module _ (source script : File) (sink : Written) (account : Account) (a b : Part
   complete : TellsSource source → TellsScript script → (HasFailed source → ⊥) → (HasFailed script → ⊥) → (Rose sink.before sink.now → ⊥)
       → (fault : Option Fault) → SoloServed source script sink account a b fault → IsDone fault
   complete is plan source_reads script_reads takes None s = tt
-  complete is plan source_reads script_reads takes (Some SinkFault) s = takes s.3
+  complete is plan source_reads script_reads takes (Some SinkFault) s = takes s.2
   complete is plan source_reads script_reads takes (Some NoMemory) s = tt
   complete is plan source_reads script_reads takes (Some (FileFault zero)) s = source_reads s.0
   complete is plan source_reads script_reads takes (Some (FileFault (suc zero))) s = script_reads s.0.2

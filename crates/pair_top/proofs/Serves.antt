@@ -3,8 +3,8 @@ use Rattle.std.proofs.Common.{Option, Some, None}
 use Rattle.s7_base.specs.Blocks.{Program}
 use Rattle.pair_top.specs.declared.faults.Fault.{Fault}
 use Rattle.pair_top.specs.declared.faults.Fault.TheVariants.{Usage, FileFault, TooLong, SourceFault, ScriptFault, SinkFault, NoMemory, Differs}
-use Rattle.pair_top.specs.Part.{Part, IsNew}
-use Rattle.pair_top.specs.Plan.{Plan}
+use Rattle.subsystem.specs.Part.{Part, IsNew}
+use Rattle.plant_script.specs.Plan.{Plan}
 use Rattle.pair_top.specs.Reading.{File, IsAccepted, IsPlanned}
 use Rattle.pair_top.specs.Serving.{Written, Account, IsQuiet, IsSoloRefusal, IsSoloOutcome, SoloServed}
 
@@ -12,16 +12,14 @@ module _ (source script : File) (sink : Written) (account : Account) (a b : Part
     (accepted : IsAccepted source.content program) (planned : IsPlanned script.content plan) (new : IsNew b) where
   pub served : (fault : Option Fault) → IsSoloOutcome program plan sink account a fault → SoloServed source script sink account a b fault
   served None o = (
-    o.0,
-    record { program = program; plan = plan; accepted = accepted; planned = planned; alone = o.1; other = o.1.other b new.lives },
+    record { program = program; plan = plan; accepted = accepted; planned = planned; alone = o.0; other = o.0.other b new },
+    o.1,
     o.2,
-    o.3,
   )
   served (Some SinkFault) o = (
-    o.0,
-    record { program = program; plan = plan; accepted = accepted; planned = planned; alone = o.1; other = o.1.other b new.lives },
+    record { program = program; plan = plan; accepted = accepted; planned = planned; alone = o.0; other = o.0.other b new },
+    o.1,
     o.2,
-    o.3,
   )
   served (Some NoMemory) o = (tt, o)
   served (Some Usage) o = absurd o

@@ -1,9 +1,9 @@
 -- The program of placed instructions is well formed, and reading gives such instructions.
-use Rattle.std.proofs.Common.{◌≡◌, ℕ, ◌≤◌, List, length, Some, Err, refl, sym, ◌∙◌, arith}
-use Rattle.std.specs.Prelude.{All, IsSome, IsErrOf}
+use Rattle.std.proofs.Common.{◌≡◌, ℕ, ◌≤◌, List, [], length, map, Some, Err, refl, sym, ◌∙◌, arith}
+use Rattle.std.specs.Prelude.{All, IsTrue, IsSome, IsErrOf}
 use Rattle.std.proofs.lemmas.Bool.{le-leb}
 use Rattle.std.proofs.lemmas.List.{length-map}
-use Rattle.std.proofs.lemmas.List.Elements.{All-map, All-weaker}
+use Rattle.std.proofs.lemmas.List.Elements.{All-map, All-weaker, All-cons, All-nil}
 use Rattle.s7_base.specs.declared.instruction.BitOperation.{BitOperation}
 use Rattle.s7_base.specs.declared.instruction.BitOperation.TheVariants.{And, AndNot, Or, OrNot, Assign, Set, Reset}
 use Rattle.s7_base.specs.declared.instruction.BitArea.{BitArea}
@@ -11,7 +11,11 @@ use Rattle.s7_base.specs.declared.instruction.BitArea.TheVariants.{I, Q, M}
 use Rattle.s7_base.specs.declared.instruction.BitInstruction.{BitInstruction}
 use Rattle.s7_base.specs.declared.instruction.Instruction.TheVariants.{Bit}
 use Rattle.s7_base.specs.Instruction.{operation_number, operation_of, area_number, area_of, instruction_of, bit_statement, IsPlaced}
-use Rattle.s7_base.specs.Blocks.{IsWellFormed}
+use Rattle.s7_base.specs.Blocks.{IsPlayable}
+use Rattle.s7_base.specs.Limits.{IsCode, IsData, IsWellFormed}
+use Rattle.s7_base.specs.Statements.{is_statement}
+use Rattle.s7_base.specs.declared.blocks.CodeKind.TheVariants.{Ob}
+use Rattle.s7_base.proofs.BitStatements.{bit_is_statement, bits_land}
 use Rattle.pair_top.specs.declared.read_error.ReadError.{ReadError}
 use Rattle.pair_top.specs.declared.read_error.ReadError.TheVariants.{Fault, NoMemory}
 use Rattle.pair_top.specs.Fields.{Gives}
@@ -42,14 +46,38 @@ stored_again i placed =
 is_stored : (i : BitInstruction) → IsPlaced i → IsSome (instruction_of (bit_statement i))
 is_stored i placed = rw (stored_again i placed) refl
 
--- so its program is well formed
-pub main_is_well_formed : (is : List BitInstruction) → length is ≤ 256 → All IsPlaced is → IsWellFormed (main_program is)
-main_is_well_formed is few placed = record {
+-- so its program is played
+pub main_is_playable : (is : List BitInstruction) → length is ≤ 256 → All IsPlaced is → IsPlayable (main_program is)
+main_is_playable is few placed = record {
   kind = refl;
   number = refl;
   temp = refl;
   few = omega (arith, length-map is bit_statement);
   each = All-map (λ s. IsSome (instruction_of s)) bit_statement is (All-weaker IsPlaced (λ i. IsSome (instruction_of (bit_statement i))) is_stored is placed);
+}
+
+-- and it is well formed
+main_is_code : (is : List BitInstruction) → length is ≤ 256 → All IsPlaced is
+    → IsCode (record { kind = Ob; number = 1; temp = 0; statements = map bit_statement is })
+main_is_code is few placed = record {
+  number = refl;
+  temp_even = refl;
+  temp_small = omega arith;
+  few = omega (arith, length-map is bit_statement);
+  each = All-map (λ s. IsTrue (is_statement 20 s)) bit_statement is (All-weaker IsPlaced (λ i. IsTrue (is_statement 20 (bit_statement i))) (bit_is_statement 20) is placed);
+  jumps = bits_land 0 is;
+}
+
+pub main_is_well_formed : (is : List BitInstruction) → length is ≤ 256 → All IsPlaced is → IsWellFormed (main_program is)
+main_is_well_formed is few placed = record {
+  main = refl;
+  few_blocks = omega arith;
+  codes = record {
+    rise = refl;
+    each = All-cons IsCode _ [] (main_is_code is few placed) (All-nil IsCode);
+    few_statements = omega (arith, length-map is bit_statement);
+  };
+  data_blocks = record { rise = refl; each = All-nil IsData; few_bytes = omega arith; few_pages = omega arith };
 }
 
 -- where nothing was read from a source, memory ran out

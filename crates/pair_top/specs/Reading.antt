@@ -6,11 +6,11 @@ use Rattle.s7_base.specs.Blocks.{Program}
 use Rattle.pair_top.specs.declared.faults.Fault.{Fault}
 use Rattle.pair_top.specs.declared.faults.Fault.TheVariants.{Usage, FileFault, TooLong, SourceFault, ScriptFault, SinkFault, NoMemory, Differs}
 use Rattle.pair_top.specs.declared.faults.LoadFault as loads
-use Rattle.pair_top.specs.declared.faults.ScriptFault as scripts
+use Rattle.plant_script.specs.declared.script_error.ScriptFault as scripts
 use Rattle.pair_top.specs.declared.reading.TheConstants.{LIMIT}
-use Rattle.pair_top.specs.Plan.{Plan}
+use Rattle.plant_script.specs.Plan.{Plan}
 use Rattle.pair_top.specs.SourceText.{IsSource, main_program}
-use Rattle.pair_top.specs.ScriptText.{IsScript}
+use Rattle.plant_script.specs.ScriptText.{IsScript}
 
 -- a file in a call: its content where it is told, and the count of its faults before the call and after it
 pub record File : Type 0 where

@@ -10,26 +10,29 @@ use Rattle.s7_base.specs.declared.entry.Answer.{Answer}
 use Rattle.s7_base.specs.declared.entry.Entry.{Entry}
 use Rattle.s7_base.specs.Blocks.{Program}
 use Rattle.mc_machine.specs.Meaning.{State, Waits, Stopped, std}
-use Rattle.pair_top.specs.declared.endings.Ended.{Ended}
-use Rattle.pair_top.specs.declared.endings.Ended.TheVariants.{NotPlayed}
-use Rattle.pair_top.specs.declared.endings.Mode.TheVariants.{Solo}
+use Rattle.pair_core.specs.declared.endings.Ended.{Ended}
+use Rattle.pair_core.specs.declared.endings.Ended.TheVariants.{NotPlayed}
+use Rattle.pair_core.specs.declared.endings.Mode.TheVariants.{Solo}
 use Rattle.pair_top.specs.declared.faults.Fault.{Fault}
 use Rattle.pair_top.specs.declared.faults.Fault.TheVariants.{Usage, FileFault, TooLong, SourceFault, ScriptFault, SinkFault, NoMemory, Differs}
 use Rattle.pair_top.specs.declared.reading.TheConstants.{LIMIT}
-use Rattle.pair_top.specs.Plan.{Plan}
-use Rattle.pair_top.specs.Part.{Part}
-use Rattle.pair_top.specs.Played.{IsRun, IsSideOf, answers_of}
+use Rattle.plant_script.specs.Plan.{Plan}
+use Rattle.subsystem.specs.Part.{Part, IsNew}
+use Rattle.pair_core.specs.Played.{IsRun, IsSideOf, answers_of}
 use Rattle.pair_top.specs.Reading.{File, IsSteady, HasFailed, IsTooLong, IsAccepted, IsPlanned, IsNoSource, IsNoScript, IsSourceOf, source_not_built, script_not_built}
 use Rattle.s7_base.specs.declared.instruction.BitInstruction.{BitInstruction}
 use Rattle.pair_top.specs.SourceText.{IsSource}
-use Rattle.pair_top.specs.ScriptText.{IsScript}
-use Rattle.pair_top.specs.CpuTail.{tail_of, tail_of_state}
-use Rattle.pair_top.specs.Text.{text}
+use Rattle.plant_script.specs.ScriptText.{IsScript}
+use Rattle.pair_core.specs.CpuTail.{tail_of, tail_of_state}
+use Rattle.pair_core.specs.Tail.{Tail}
+use Rattle.pair_core.specs.Text.{HasTail, text}
 use Rattle.pair_top.specs.Words.{Order, solo}
 
--- the CPU comes to this state with these answers: it waits there at its next request, or has stopped there
-abbrev pub ComesTo : Program → List Answer → State → Type 0
-ComesTo program given state = ((request : Request) × (std program given ≡ Waits request state)) ⊎ (std program given ≡ Stopped state)
+-- with these answers the CPU comes to a state that this tail shows: it waits there at its next request, or has stopped there
+abbrev pub ComesTo : Program → List Answer → Tail → Type 0
+ComesTo program given tail =
+    (state : State) × (((request : Request) × (std program given ≡ Waits request state)) ⊎ (std program given ≡ Stopped state))
+    × (tail ≡ tail_of_state state)
 
 -- a call --
 
@@ -52,27 +55,25 @@ pub record Account : Type 0 where
 abbrev pub account_of : List Entry → List (ℕ × Side) → Ended → Account
 account_of entries shown ended = record { entries = entries; shown = shown; ended = ended }
 
--- A play of a program and a plan by side A alone, which ends with the CPU in this state, which its machine shows. Side B
--- has no part in it.
-pub record IsAlonePlay (program : Program) (plan : Plan) (account : Account) (a : Part) (state : State) : Type 0 where
+-- A play of a program and a plan by side A alone. Where its text has a tail, A's machine shows the CPU at its end. Side B has
+-- no part in it.
+pub record IsAlonePlay (program : Program) (plan : Plan) (account : Account) (a : Part) : Type 0 where
   pub run : IsRun program plan true account.entries account.shown account.ended
   pub side : IsSideOf program plan true account.entries account.ended A a
-  pub last : ComesTo program (answers_of account.entries) state
-  pub shows : tail_of a.machine ≡ tail_of_state state
-  pub other : (b : Part) → b.lives ≡ [] → IsSideOf program plan true account.entries account.ended B b
+  pub last : HasTail account.ended → ComesTo program (answers_of account.entries) (tail_of a.machine)
+  pub other : (b : Part) → IsNew b → IsSideOf program plan true account.entries account.ended B b
 
 -- its text
-abbrev pub solo_text : Account → State → List ℕ
-solo_text account state = text Solo account.entries account.shown account.ended (tail_of_state state)
+abbrev pub solo_text : Account → Part → List ℕ
+solo_text account a = text Solo account.entries account.shown account.ended (tail_of a.machine)
 
--- Both files were read whole and accepted, and this is a play of them by side A alone, which ends with the CPU in this
--- state.
-pub record IsSoloPlay (source script : Option (List ℕ)) (account : Account) (a b : Part) (state : State) : Type 0 where
+-- Both files were read whole and accepted, and this is a play of them by side A alone.
+pub record IsSoloPlay (source script : Option (List ℕ)) (account : Account) (a b : Part) : Type 0 where
   pub program : Program
   pub plan : Plan
   pub accepted : IsAccepted source program
   pub planned : IsPlanned script plan
-  pub alone : IsAlonePlay program plan account a state
+  pub alone : IsAlonePlay program plan account a
   pub other : IsSideOf program plan true account.entries account.ended B b
 
 -- nothing was played and nothing written
@@ -107,9 +108,9 @@ AreSteady fault source script = IsSteady source × IsSteady script
 -- text or a front of it. Without memory: nothing played and nothing written.
 abbrev pub IsSoloOutcome : Program → Plan → Written → Account → Part → Option Fault → Type 0
 IsSoloOutcome program plan sink account a None =
-    (state : State) × IsAlonePlay program plan account a state × Appends sink.old sink.new (solo_text account state) × (sink.now ≡ sink.before)
+    IsAlonePlay program plan account a × Appends sink.old sink.new (solo_text account a) × (sink.now ≡ sink.before)
 IsSoloOutcome program plan sink account a (Some SinkFault) =
-    (state : State) × IsAlonePlay program plan account a state × AppendsFront sink.old sink.new (solo_text account state) × Rose sink.before sink.now
+    IsAlonePlay program plan account a × AppendsFront sink.old sink.new (solo_text account a) × Rose sink.before sink.now
 IsSoloOutcome program plan sink account a (Some NoMemory) = IsQuiet sink account
 IsSoloOutcome program plan sink account a (Some Usage) = ⊥
 IsSoloOutcome program plan sink account a (Some (FileFault which)) = ⊥
@@ -122,9 +123,9 @@ IsSoloOutcome program plan sink account a (Some (Differs line)) = ⊥
 -- written.
 abbrev pub SoloServed : File → File → Written → Account → Part → Part → Option Fault → Type 0
 SoloServed source script sink account a b None =
-    (state : State) × IsSoloPlay source.content script.content account a b state × Appends sink.old sink.new (solo_text account state) × (sink.now ≡ sink.before)
+    IsSoloPlay source.content script.content account a b × Appends sink.old sink.new (solo_text account a) × (sink.now ≡ sink.before)
 SoloServed source script sink account a b (Some SinkFault) =
-    (state : State) × IsSoloPlay source.content script.content account a b state × AppendsFront sink.old sink.new (solo_text account state) × Rose sink.before sink.now
+    IsSoloPlay source.content script.content account a b × AppendsFront sink.old sink.new (solo_text account a) × Rose sink.before sink.now
 SoloServed source script sink account a b (Some fault) = IsSoloRefusal source script fault × IsQuiet sink account
 
 -- What a call answers and leaves, by its command.

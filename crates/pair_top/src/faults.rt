@@ -2,19 +2,14 @@
 ghost use Rattle.std.specs.Prelude.{◌≡◌, [], Some};
 ghost use Rattle.pair_top.specs.Statuses.{status_of};
 
-use crate::{Ended, Record, Shown};
+use event_record::Record;
+use pair_core::{Ended, Shown};
+use plant_script::ScriptFault;
 use std::alloc::Global;
 
 /// A fault of a source: its kind, and its line, counted from 1, or 0 for the whole.
 #[derive(Clone, Copy, Debug, PartialEq, Eq)]
 pub struct LoadFault {
-    pub kind: u8,
-    pub line: u32,
-}
-
-/// A fault of a plant script: its kind, and its line, counted from 1, or 0 for the whole.
-#[derive(Clone, Copy, Debug, PartialEq, Eq)]
-pub struct ScriptFault {
     pub kind: u8,
     pub line: u32,
 }

@@ -1,20 +1,20 @@
 //! Reads the files of a command.
 ghost use Rattle.std.specs.Prelude.{◌≡◌, ◌≤◌, length, ℕ, List, IfOk, IfErr, OnOk};
-ghost use Rattle.pair_top.specs.Plan.{IsPlan};
+ghost use Rattle.s7_base.specs.Blocks.{IsPlayable};
+ghost use Rattle.plant_script.specs.Plan.{IsPlan};
 ghost use Rattle.pair_top.specs.Reading.{file_of, WasRead, IsAccepted, IsPlanned, IsReadRefusal, IsSourceRefusal, IsScriptRefusal, CountsOnly};
 
-use crate::plan::Script;
-use crate::script_reader::read_script;
 use crate::source_reader::read_source;
-use crate::{Fault, LoadFault, ReadError, ScriptFault};
+use crate::{Fault, LoadFault, ReadError};
 use pair_io::{Files, FilesError};
+use plant_script::{Script, ScriptError, read_script};
 use s7_base::Blocks;
 use std::alloc::Global;
 
 /// The most bytes of a source or a script.
 pub const LIMIT: u64 = 1_048_576;
 
-/// The kind of a fault of a source or script of a form that is not played.
+/// The kind of a fault of a source of a form that is not played.
 const NOT_BUILT: u8 = 99;
 
 /// The bytes of a file, which has this number.
@@ -42,6 +42,7 @@ fn read_file<F: Files>(
 /// The blocks of the source of this name.
 pub fn read_blocks<F: Files>(alloc: Global, files: &mut F, name: &[u8]) -> Result<Blocks, Fault>
     ensures read { IfOk result (IsAccepted (F.content files.old name.now)) }
+    ensures playable { IfOk result IsPlayable }
     ensures refused { IfErr result (IsSourceRefusal (file_of (F.content files.old) (F.faults files.old) (F.faults files.new) name.now)) }
     ensures stays { (other : List ℕ) → F.content files.new other ≡ F.content files.old other }
     ensures counts { OnOk result ((other : List ℕ) → F.faults files.new other ≡ F.faults files.old other) }
@@ -69,10 +70,7 @@ pub fn read_plant<F: Files>(alloc: Global, files: &mut F, name: &[u8]) -> Result
     let bytes = read_file(alloc, files, name, 1)?;
     match read_script(alloc, &bytes) {
         Ok(script) => Ok(script),
-        Err(ReadError::Fault) => Err(Fault::ScriptFault(ScriptFault {
-            kind: NOT_BUILT,
-            line: 0,
-        })),
-        Err(ReadError::NoMemory) => Err(Fault::NoMemory),
+        Err(ScriptError::Fault(fault)) => Err(Fault::ScriptFault(fault)),
+        Err(ScriptError::NoMemory) => Err(Fault::NoMemory),
     }
 }

@@ -1,35 +1,31 @@
 //! The top call.
-ghost use Rattle.std.specs.Prelude.{◌≡◌, ◌≤◌, ◌<◌, ◌↔◌, ℕ, List, [], ◌∷◌, length, true, Some, None, IsNone, IsTrue, IfOk, IfErr, OnOk, OnErr};
-ghost use Rattle.s7_base.specs.Blocks.{Program};
-ghost use Rattle.mc_machine.specs.Stands.{CanAsk, IsRunning, Stands};
-ghost use Rattle.pair_io.specs.Bytes.{AppendsFront};
-ghost use Rattle.pair_io.specs.Causes.{Counts};
-ghost use Rattle.pair_top.specs.CpuTail.{tail_of};
-ghost use Rattle.pair_top.specs.Text.{text};
-ghost use Rattle.std.specs.Io.KnownBytes.{Appends};
-ghost use Rattle.pair_top.specs.Part.{IsNew, first_life};
-ghost use Rattle.pair_top.specs.Plan.{Plan, IsPlan};
-ghost use Rattle.pair_top.specs.Playing.{IsPlayedOut};
-ghost use Rattle.pair_top.specs.Reading.{file_of, IsAccepted, IsPlanned, IsSourceOf};
-ghost use Rattle.pair_top.specs.ScriptText.{IsScript};
-ghost use Rattle.pair_top.specs.Serving.{IsSoloRefusal, AreSteady, IsSoloOutcome, SoloServed, Served, account_of, written_in, GivesWhatIsDue, OfSolo};
+ghost use Rattle.std.specs.Prelude.{◌≡◌, ◌≤◌, ◌↔◌, ℕ, List, true, false, Some, IsNone, IfOk, IfErr, OnOk};
+ghost use Rattle.s7_base.specs.Blocks.{IsPlayable};
+ghost use Rattle.subsystem.specs.Part.{IsNew, IsOpen};
+ghost use Rattle.pair_core.specs.World.{part, first_part};
+ghost use Rattle.pair_core.specs.Places.{IsAt};
+ghost use Rattle.pair_core.specs.Progress.{IsAlone};
+ghost use Rattle.pair_core.specs.Text.{HasTail};
+ghost use Rattle.pair_top.specs.Reading.{file_of, IsAccepted, IsPlanned};
+ghost use Rattle.pair_top.specs.Serving.{IsSoloRefusal, AreSteady, IsAlonePlay, IsSoloOutcome, SoloServed, Served, account_of, written_in, GivesWhatIsDue, OfSolo};
 ghost use Rattle.pair_top.specs.Statuses.{status_of};
 ghost use Rattle.pair_top.specs.Words.{command_of, words_of};
 ghost use Rattle.pair_top.specs.WordsView.{order_of};
 
-use crate::alone::play_alone;
-use crate::plan::Script;
-use crate::printer::print;
+use crate::play::{finish_alone, play_alone};
 use crate::reading::{read_blocks, read_plant};
-use crate::views::CpuView;
 use crate::words::{Command, command_from};
-use crate::writing::SinkFault;
-use crate::{Ended, Fault, Gate, Mode, Outcome, Record, Shown, Subsystem};
+use crate::{Fault, Gate, Outcome};
+use event_record::Record;
+use pair_core::{Ended, Mode, Pair, Shown, begins};
 use pair_io::{Files, Sink};
-use s7_base::{Blocks, NoMemory};
+use plant_script::Script;
+use s7_base::{Blocks, NoMemory, Side};
 use std::alloc::Global;
 use std::sync::Wait;
 use std::thread::Threads;
+use subsystem::Subsystem;
+use trace_printer::print;
 
 /// Both files of a play.
 fn read_both<F: Files>(
@@ -39,6 +35,7 @@ fn read_both<F: Files>(
     files: &mut F,
 ) -> Result<(Blocks, Script), Fault>
     ensures source { IfOk result (λ both. IsAccepted (F.content files.old source.now) both.0) }
+    ensures playable { IfOk result (λ both. IsPlayable both.0) }
     ensures script { IfOk result (λ both. IsPlanned (F.content files.old script.now) both.1) }
     ensures refused { IfErr result (IsSoloRefusal
         (file_of (F.content files.old) (F.faults files.old) (F.faults files.new) source.now)
@@ -53,99 +50,75 @@ fn read_both<F: Files>(
     Ok((blocks, plant))
 }
 
-/// Room for the run, and then side A at its start. At `Err` it is as before.
+/// A pair for a play of side A alone, and then side A at its start. At `Err` side A is as before.
 fn open_alone(
     alloc: Global,
     blocks: &Blocks,
-    end: u32,
+    script: Script,
     a: &mut Subsystem,
-) -> Result<(Record, Shown), NoMemory>
-    requires { IsNew a.old }
-    ensures record { IfOk result (λ room. room.0 ≡ record { entries = []; room = end }) }
-    ensures shown { IfOk result (λ room. room.1 ≡ record { list = []; room = end }) }
-    ensures lives { OnOk result (a.new.lives ≡ first_life ∷ []) }
-    ensures stands { OnOk result (Stands blocks.now [] a.new.machine) }
-    ensures going { OnOk result (CanAsk a.new.machine) }
+) -> Result<Pair, NoMemory>
+    requires new { IsNew a.old }
+    requires playable { IsPlayable blocks.now }
+    ensures setup { IfOk result (λ pair. pair.setup ≡ record { program = blocks.now; plan = script; solo = true }) }
+    ensures alone { IfOk result (λ pair. IsAlone pair.setup pair.world 0) }
+    ensures a { IfOk result (λ pair. IsAt pair.setup.program (part pair.world Side.A) pair.world.log.entries a.new) }
+    ensures b { IfOk result (λ pair. part pair.world Side.B ≡ first_part false) }
 {
-    let record = Record::with_room(alloc, end)?;
-    let shown = Shown::with_room(alloc, end)?;
+    let pair = Pair::new(alloc, blocks, script, true)?;
     a.load(alloc, blocks)?;
-    Ok((record, shown))
+    begins();
+    Ok(pair)
 }
 
-/// Writes the text of a play that ended at the end of its record.
-fn print_alone<K: Sink>(
-    sink: &mut K,
-    a: &Subsystem,
-    record: &Record,
-    shown: &Shown,
-) -> Result<(), SinkFault>
-    requires { IsRunning a.now.machine }
-    ensures ok { OnOk result (Appends (K.written sink.old) (K.written sink.new)
-        (text Mode.Solo record.now.entries shown.now.list Ended.End (tail_of a.now.machine))) }
-    ensures err { OnErr result (AppendsFront (K.written sink.old) (K.written sink.new)
-        (text Mode.Solo record.now.entries shown.now.list Ended.End (tail_of a.now.machine))) }
-    ensures cause { Counts (K.faults sink.old) (K.faults sink.new) result }
+/// Plays side A alone to the end of the run.
+fn play_out(mut pair: Pair, end: u32, a: &mut Subsystem) -> (Record, Shown, Ended)
+    requires alone { IsAlone pair.setup pair.world 0 }
+    requires end { end ≡ pair.setup.plan.end }
+    requires few { end ≤ 200000 }
+    requires a { IsAt pair.setup.program (part pair.world Side.A) pair.world.log.entries a.old }
+    requires b { part pair.world Side.B ≡ first_part false }
+    ensures played { IsAlonePlay pair.setup.program pair.setup.plan (account_of result.0.entries result.1.list result.2) a.new }
+    ensures open { HasTail result.2 → IsOpen a.new }
 {
-    let view = CpuView::new(a.machine());
-    print(
-        sink,
-        Mode::Solo,
-        record.as_slice(),
-        shown.as_slice(),
-        Ended::End,
-        Some(&view),
-    )
-}
-
-/// Plays side A to the end of the record, and then up to its next request.
-fn play_to_end(script: &Script, a: &mut Subsystem, record: &mut Record, shown: &mut Shown)
-    requires form { IsPlan script.now }
-    requires going { CanAsk a.old.machine }
-    requires lives { a.old.lives ≡ first_life ∷ [] }
-    requires room { record.old ≡ record { entries = []; room = script.now.end } }
-    requires shown_room { shown.old ≡ record { list = []; room = script.now.end } }
-    ensures running { IsRunning a.new.machine }
-    ensures played { (program : Program) → Stands program [] a.old.machine
-        → IsPlayedOut program script.now record.new.entries shown.new.list a.new }
-{
-    play_alone(script, a, record, shown);
-    a.ask();
+    play_alone(&mut pair, end, a);
+    finish_alone(pair, a)
 }
 
 /// Plays side A alone, and writes the text.
 fn play_solo<K: Sink>(
     alloc: Global,
     blocks: &Blocks,
-    script: &Script,
+    script: Script,
     sink: &mut K,
     a: &mut Subsystem,
 ) -> Outcome
-    requires { IsNew a.old }
+    requires new { IsNew a.old }
+    requires playable { IsPlayable blocks.now }
     ensures status { result.status ≡ status_of result.fault }
-    ensures played { IsSoloOutcome blocks.now script.now
+    ensures played { IsSoloOutcome blocks.now script
         (written_in (K.written sink.old) (K.written sink.new) (K.faults sink.old) (K.faults sink.new))
         (account_of result.entries.entries result.shown.list result.ended) a.new result.fault }
 {
-    let (mut record, mut shown) = match open_alone(alloc, blocks, script.end(), a) {
-        Ok(room) => room,
+    let end = script.end();
+    let pair = match open_alone(alloc, blocks, script, a) {
+        Ok(pair) => pair,
         Err(NoMemory) => return Outcome::refused(alloc, Fault::NoMemory),
     };
-    play_to_end(script, a, &mut record, &mut shown);
-    match print_alone(sink, a, &record, &shown) {
+    let (entries, shown, ended) = play_out(pair, end, a);
+    match print(sink, Mode::Solo, &entries, &shown, &ended, Some(a)) {
         Ok(()) => Outcome {
             status: 0,
             fault: None,
-            entries: record,
+            entries,
             shown,
-            ended: Ended::End,
+            ended,
         },
         Err(_) => Outcome {
             status: Fault::SinkFault.status(),
             fault: Some(Fault::SinkFault),
-            entries: record,
+            entries,
             shown,
-            ended: Ended::End,
+            ended,
         },
     }
 }
@@ -181,7 +154,7 @@ fn serve_solo<F: Files, K: Sink>(
         Ok(both) => both,
         Err(fault) => return Outcome::refused(alloc, fault),
     };
-    play_solo(alloc, &blocks, &plant, sink, a)
+    play_solo(alloc, &blocks, plant, sink, a)
 }
 
 /// Does what a command says.

@@ -1,5 +1,6 @@
 //! Reads a source of one OB1 of bit statements.
 ghost use Rattle.std.specs.Prelude.{◌≡◌, ℕ, ◌≤◌, List, length, map, All, IfOk, MatchResult, IsErrOf};
+ghost use Rattle.s7_base.specs.Blocks.{IsPlayable};
 ghost use Rattle.s7_base.specs.Instruction.{bit_statement, IsPlaced};
 ghost use Rattle.s7_base.specs.declared.instruction.BitInstruction.{BitInstruction};
 ghost use Rattle.pair_top.specs.SourceText.{operation_word, area_word, IsSource, main_program};
@@ -158,7 +159,8 @@ fn stored(alloc: Global, instructions: &[BitInstruction]) -> Result<Vec<Statemen
 fn main_blocks(alloc: Global, instructions: &[BitInstruction]) -> Result<Blocks, NoMemory>
     requires count { length instructions.now ≤ 256 }
     requires placed { All IsPlaced instructions.now }
-    ensures { IfOk result (λ blocks. blocks ≡ main_program instructions.now) }
+    ensures blocks { IfOk result (λ blocks. blocks ≡ main_program instructions.now) }
+    ensures playable { IfOk result IsPlayable }
 {
     let statements = stored(alloc, instructions)?;
     let mut codes = Vec::new(alloc);
@@ -176,6 +178,9 @@ fn main_blocks(alloc: Global, instructions: &[BitInstruction]) -> Result<Blocks,
 pub fn read_source(alloc: Global, bytes: &[u8]) -> Result<Blocks, ReadError>
     // What is read is written so.
     ensures found { IfOk result (λ blocks. (is : List BitInstruction) × IsSource bytes.now is × (blocks ≡ main_program is)) }
+
+    // It is played.
+    ensures playable { IfOk result IsPlayable }
 
     // What is written so is read, unless memory runs out.
     ensures only { (is : List BitInstruction) → IsSource bytes.now is

@@ -1,9 +1,12 @@
 ghost use Rattle.std.specs.Prelude.{◌≡◌, length, IfOk};
 
 use crate::*;
+use pair_core::Ended;
 use pair_io::{MemFiles, MemSink};
+use plant_script::ScriptFault;
 use std::alloc::{AllocError, Global};
 use std::test::Fail;
+use subsystem::{How, Life, Subsystem};
 
 const SOURCE: &[u8] =
     b"ORGANIZATION_BLOCK OB 1\nBEGIN\nA I 0.0;\n= Q 0.0;\nEND_ORGANIZATION_BLOCK\n";
@@ -158,6 +161,47 @@ fn plays_are_written(rt: HostRuntime) -> Result<(), Fail> {
         assert_eq!(rt; left.outcome.ended, Ended::End);
         assert_eq!(rt; sink.written(), text);
     }
+    Ok(())
+}
+
+/// Scripts that stop side A, the texts, and how many outputs were shown.
+const FAILURES: [(&[u8], &[u8], usize); 4] = [
+    (b"AT 0 FAIL A\nEND 12\n", b"TRACE 1 SOLO\nNONE 0\n", 0),
+    (
+        b"AT 4 FAIL A\nEND 12\n",
+        b"TRACE 1 SOLO\n0 1 OUT - = DONE\nSHOW A\n1 1 IN = IMG -\n2 1 CYCLE = GO\n\
+3 1 OUT - = DONE\nNONE 4\n",
+        1,
+    ),
+    (
+        b"AT 4 FAIL A LATE\nEND 12\n",
+        b"TRACE 1 SOLO\n0 1 OUT - = DONE\nSHOW A\n1 1 IN = IMG -\n2 1 CYCLE = GO\n\
+3 1 OUT - = DONE\nSHOW A\nNONE 4\n",
+        2,
+    ),
+    (
+        b"MODULE IN 0 1 SWITCHED\nAT 1 INPUT 0 01\nAT 2 FAIL A\nEND 12\n",
+        b"TRACE 1 SOLO\n0 1 OUT - = DONE\nSHOW A\n1 1 IN = IMG 0:01\nNONE 2\n",
+        1,
+    ),
+];
+
+#[test]
+fn a_side_that_stops_leaves_none(rt: HostRuntime) -> Result<(), Fail> {
+    let alloc = rt.alloc();
+    for (script, text, shown) in FAILURES {
+        let mut sink = MemSink::new(alloc, 1000, Vec::new(alloc))?;
+        let left = played(alloc, script, &mut sink)?;
+        assert_eq!(rt; left.outcome.fault, None);
+        assert_eq!(rt; left.outcome.ended, Ended::NoneLeft);
+        assert_eq!(rt; left.outcome.shown.as_slice().len(), shown);
+        assert_eq!(rt; sink.written(), text);
+    }
+    let mut sink = MemSink::new(alloc, 1000, Vec::new(alloc))?;
+    let script = b"MODULE IN 0 1 SWITCHED\nAT 3 INPUT 0 01\nAT 4 FAIL B\nEND 12\n";
+    let left = played(alloc, script, &mut sink)?;
+    assert_eq!(rt; left.outcome.ended, Ended::End);
+    assert_eq!(rt; sink.written(), TEXT);
     Ok(())
 }
 

@@ -1,0 +1,2 @@
+pub mod BitStatements
+pub mod Numbers

@@ -28,15 +28,19 @@ same_kind Fb Fb = true
 same_kind Fc Fc = true
 same_kind _ _ = false
 
+-- the code block of this name in a list
+abbrev pub code_named : List Code → CodeKind → ℕ → Option Code
+code_named codes kind number = find (λ code. same_kind code.kind kind && code.number == number) codes
+
 -- the code block of this name, if it is loaded
 abbrev pub code_of : Program → CodeKind → ℕ → Option Code
-code_of program kind number = find (λ code. same_kind code.kind kind && code.number == number) program.codes
+code_of program kind number = code_named program.codes kind number
 
 -- the data block of this number, if it is loaded
 abbrev pub data_of : Program → ℕ → Option Data
 data_of program number = find (λ data_block. data_block.number == number) program.data_blocks
 
--- an OB1 without temporary data, of at most 256 statements of the language
+-- an OB1 without temporary data, of at most 256 statements that are played
 pub record IsMain (code : Code) : Type 0 where
   pub kind : code.kind ≡ Ob
   pub number : code.number ≡ 1
@@ -49,5 +53,6 @@ abbrev pub IsAlone : List Code → List Data → Type 0
 IsAlone (main ∷ []) [] = IsMain main
 IsAlone _ _ = ⊥
 
-abbrev pub IsWellFormed : Program → Type 0
-IsWellFormed program = IsAlone program.codes program.data_blocks
+-- the program is one that is played
+abbrev pub IsPlayable : Program → Type 0
+IsPlayable program = IsAlone program.codes program.data_blocks

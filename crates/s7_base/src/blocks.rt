@@ -1,9 +1,10 @@
 //! The blocks of a program.
-ghost use Rattle.std.specs.Prelude.{◌≡◌, ◌↔◌, IsTrue, IsSome, IfSome, IfOk, All};
+ghost use Rattle.std.specs.Prelude.{◌≡◌, ◌↔◌, IsTrue, IsSome, IfSome, IfOk};
 ghost use Rattle.std.specs.Option.{option_copied};
-ghost use Rattle.s7_base.specs.Instruction.{instruction_of};
-ghost use Rattle.s7_base.specs.Blocks.{Code, Data, Program, same_kind, code_of, data_of, IsMain, IsWellFormed};
+ghost use Rattle.s7_base.specs.Blocks.{Code, Data, Program, same_kind, code_named, code_of, data_of};
+ghost use Rattle.s7_base.specs.Limits.{IsWellFormed};
 
+use crate::limits::are_well_formed;
 use crate::{NoMemory, Statement};
 use std::alloc::Global;
 use std::marker::Model;
@@ -136,7 +137,8 @@ impl DataBlock {
     }
 }
 
-/// The blocks of a program, always well formed: OB1 alone, without temporary data, of at most 256 bit statements.
+/// The blocks of a program, always well formed: OB1 is there, the blocks stand in order, they keep the limits of
+/// number and size, and each statement is one of the language, whose jump, if it is one, lands.
 #[derive(Debug, Drop)]
 pub struct Blocks {
     codes: Vec<CodeBlock>,
@@ -144,7 +146,8 @@ pub struct Blocks {
 }
 
 impl Model for Blocks {
-    ghost use Rattle.s7_base.specs.Blocks.{Program, IsWellFormed};
+    ghost use Rattle.s7_base.specs.Blocks.{Program};
+    ghost use Rattle.s7_base.specs.Limits.{IsWellFormed};
 
     ghost Value = { Program };
 
@@ -153,32 +156,13 @@ impl Model for Blocks {
     ghost invariant = { λ b. IsWellFormed (record { codes = b.codes.items; data_blocks = b.data_blocks.items }) };
 }
 
-/// Whether each statement is one of the language.
-fn are_statements(statements: &[Statement]) -> bool
-    ensures { IsTrue result ↔ All (λ s. IsSome (instruction_of s)) statements.now }
+/// The code block of a name in a list.
+pub fn code_in(codes: &[CodeBlock], kind: CodeKind, number: u8) -> Option<&CodeBlock>
+    ensures { option_copied result ≡ code_named codes.now kind number }
 {
-    statements.iter().all(|s| s.instruction().is_some())
-}
-
-/// Whether the block is an OB1 that can stand alone.
-fn is_main(code: &CodeBlock) -> bool
-    ensures { IsTrue result ↔ IsMain code.now }
-{
-    code.kind == CodeKind::Ob
-        && code.number == 1
-        && code.temp == 0
-        && code.statements.len() <= 256
-        && are_statements(&code.statements)
-}
-
-/// Whether the lists of blocks are well formed.
-fn are_well_formed(codes: &[CodeBlock], data_blocks: &[DataBlock]) -> bool
-    ensures { IsTrue result ↔ IsWellFormed (record { codes = codes.now; data_blocks = data_blocks.now }) }
-{
-    match codes {
-        [main] => is_main(main) && data_blocks.is_empty(),
-        _ => false,
-    }
+    codes
+        .iter()
+        .find(|code| code.kind == kind && code.number == number)
 }
 
 impl Blocks {
@@ -222,9 +206,7 @@ impl Blocks {
     pub fn code(&self, kind: CodeKind, number: u8) -> Option<&CodeBlock>
         ensures { option_copied result ≡ code_of self.now kind number }
     {
-        self.codes
-            .iter()
-            .find(|code| code.kind == kind && code.number == number)
+        code_in(&self.codes, kind, number)
     }
 
     /// A data block. None exactly where it isn't loaded. Takes no memory.

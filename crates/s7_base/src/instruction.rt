@@ -1,6 +1,7 @@
 //! What a stored statement means: instructions by groups.
-ghost use Rattle.std.specs.Prelude.{◌≡◌, Some, IfSome};
+ghost use Rattle.std.specs.Prelude.{◌≡◌, ℕ, Some, IfSome, IsTrue};
 ghost use Rattle.s7_base.specs.Instruction.{operation_number, operation_of, area_number, area_of, last_byte, bit_statement, instruction_of, IsPlaced, HasOperand};
+ghost use Rattle.s7_base.specs.Statements.{is_statement};
 
 use crate::Statement;
 
@@ -121,6 +122,8 @@ impl BitInstruction {
     pub fn statement(self) -> Statement
         ensures stored { result ≡ bit_statement self }
         ensures meaning { IsPlaced self → instruction_of result ≡ Some (Instruction.Bit self) }
+        // and the statement is of the language in every block
+        ensures language { IsPlaced self → (locals : ℕ) → IsTrue (is_statement locals result) }
     {
         Statement {
             op: self.operation.number(),

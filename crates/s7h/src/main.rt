@@ -2,11 +2,12 @@
 #![tactic(auto)]
 
 use pair_io::{RealFiles, RealSink, StdOpener};
-use pair_top::{Fault, NoGate, Subsystem, s7h_top};
+use pair_top::{Fault, NoGate, s7h_top};
 use std::alloc::{AllocError, Global};
 use std::process::ExitCode;
 use std::rt::Env;
 use std::{env, io};
+use subsystem::Subsystem;
 
 /// The words after the program's name. Words that cannot be read are no command.
 fn words_of(

@@ -8,12 +8,13 @@ mod opener;
 use anyhow::Context;
 use opener::RowOpener;
 use pair_io::{RealFiles, RealSink};
-use pair_top::{NoGate, Outcome, Subsystem, s7h_top};
+use pair_top::{NoGate, Outcome, s7h_top};
 use std::alloc::Global;
 use std::rt::Files;
 use std::sync::Wait;
 use std::thread::Threads;
 use std::{fs, io};
+use subsystem::Subsystem;
 
 /// The lines of a text, as words.
 fn words_of(alloc: Global, text: &str) -> anyhow::Result<Vec<Vec<u8>>> {

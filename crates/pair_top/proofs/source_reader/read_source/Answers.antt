@@ -34,10 +34,10 @@ main_blocks-requires-clause-placed c =
 pub returns-clause-found : goal.returns-clause-found
 returns-clause-found c =
     let read = c.in_ok-instructions.instructions.items in
-    (read, source_takes c.args.bytes.now read c.in_ok-instructions.ensures, rw (← c.deref.ensures.value) c.in-Ok.ensures)
+    (read, source_takes c.args.bytes.now read c.in_ok-instructions.ensures, rw (← c.deref.ensures.value) c.in-Ok.ensures.blocks)
 
 pub returns-clause-only : goal.returns-clause-only
 returns-clause-only c = λ is source.
     let read = c.in_ok-instructions.instructions.items in
     let same : read ≡ is = same_instructions c.args.bytes.now read is c.in_ok-instructions.ensures source in
-    c.in-Ok.ensures ∙ ap main_program (c.deref.ensures.value ∙ same)
+    c.in-Ok.ensures.blocks ∙ ap main_program (c.deref.ensures.value ∙ same)

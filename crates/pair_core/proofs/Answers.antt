@@ -1,0 +1,69 @@
+-- The lawful answer: which it is, that it fits, and when it stops the CPU.
+use Rattle.std.proofs.Common.{◌≡◌, ℕ, Bool, true, false, ◌&&◌, Some, None, refl, ap, MatchBool}
+use Rattle.std.specs.Prelude.{if◌then◌else◌}
+use Rattle.s7_base.specs.declared.entry.Side.TheVariants.{A, B}
+use Rattle.s7_base.specs.declared.entry.Loss.TheVariants.{Failed}
+use Rattle.s7_base.specs.declared.entry.Ask.{Ask}
+use Rattle.s7_base.specs.declared.entry.Ask.TheVariants as asks
+use Rattle.s7_base.specs.declared.entry.Request.{Request}
+use Rattle.s7_base.specs.declared.entry.Answer.{Answer}
+use Rattle.s7_base.specs.declared.entry.Answer.TheVariants as answers
+use Rattle.mc_machine.specs.Meaning.{takes, stops_cpu, request_of}
+use Rattle.plant_script.specs.Plan.{Plan}
+use Rattle.pair_core.specs.declared.standing.Standing.{Standing}
+use Rattle.pair_core.specs.Cuts.{is_cut}
+use Rattle.pair_core.specs.Stops.{stop_by}
+use Rattle.pair_core.specs.Lawful.{IsPlainAnswer, IsLawfulAnswer}
+use Rattle.pair_core.specs.Turns.{plain_answer, answer_at}
+
+plain_is : (plan : Plan) (k : ℕ) (ask : Ask) (answer : Answer) → plain_answer plan k ask ≡ Some answer → IsPlainAnswer plan k ask answer
+plain_is plan k (asks.Outputs image) answer h = cc
+plain_is plan k asks.Inputs answer h = cc
+plain_is plan k asks.Cycle answer h = cc
+plain_is plan k asks.Now answer h = cc
+plain_is plan k asks.Tick answer h = cc
+plain_is plan k asks.Retrigger answer h = cc
+plain_is plan k (asks.Reply value) answer h = cc
+plain_is plan k (asks.Stop code) answer h = cc
+plain_is plan k (asks.ReadP addr width) answer h = absurd cc
+plain_is plan k (asks.WriteP addr width value) answer h = absurd cc
+
+lawful_by : (plan : Plan) (k : ℕ) (ask : Ask) (answer : Answer) (a b : Bool)
+    → (if a then Some (answers.Lost A Failed) else (if b then Some (answers.Lost B Failed) else plain_answer plan k ask)) ≡ Some answer
+    → MatchBool a (answer ≡ answers.Lost A Failed) (MatchBool b (answer ≡ answers.Lost B Failed) (IsPlainAnswer plan k ask answer))
+lawful_by plan k ask answer true b h = cc
+lawful_by plan k ask answer false true h = cc
+lawful_by plan k ask answer false false h = plain_is plan k ask answer h
+
+-- what a visit answers is the lawful answer
+pub lawful_is : (plan : Plan) (st : Standing) (k : ℕ) (ask : Ask) (answer : Answer) → answer_at plan st k ask ≡ Some answer → IsLawfulAnswer plan st k ask answer
+lawful_is plan st k ask answer h = lawful_by plan k ask answer (st.a && st.b && is_cut plan A k) (st.a && st.b && is_cut plan B k) h
+
+plain_takes : (plan : Plan) (k prio : ℕ) (ask : Ask) (answer : Answer) → IsPlainAnswer plan k ask answer → takes (request_of ask prio) answer ≡ true
+plain_takes plan k prio (asks.Outputs image) answer e = ap (takes (request_of (asks.Outputs image) prio)) e
+plain_takes plan k prio asks.Inputs answer e = ap (takes (request_of asks.Inputs prio)) e
+plain_takes plan k prio asks.Cycle answer e = ap (takes (request_of asks.Cycle prio)) e
+plain_takes plan k prio asks.Now answer e = ap (takes (request_of asks.Now prio)) e
+plain_takes plan k prio asks.Tick answer e = ap (takes (request_of asks.Tick prio)) e
+plain_takes plan k prio asks.Retrigger answer e = ap (takes (request_of asks.Retrigger prio)) e
+plain_takes plan k prio (asks.Reply value) answer e = ap (takes (request_of (asks.Reply value) prio)) e
+plain_takes plan k prio (asks.Stop code) answer e = ap (takes (request_of (asks.Stop code) prio)) e
+plain_takes plan k prio (asks.ReadP addr width) answer e = absurd e
+plain_takes plan k prio (asks.WriteP addr width value) answer e = absurd e
+
+takes_by : (plan : Plan) (k : ℕ) (request : Request) (answer : Answer) (a b : Bool)
+    → MatchBool a (answer ≡ answers.Lost A Failed) (MatchBool b (answer ≡ answers.Lost B Failed) (IsPlainAnswer plan k request.ask answer))
+    → takes request answer ≡ true
+takes_by plan k request answer true b h = ap (takes request) h
+takes_by plan k request answer false true h = ap (takes request) h
+takes_by plan k request answer false false h = plain_takes plan k request.prio request.ask answer h
+
+-- the lawful answer is one that the CPU takes
+pub lawful_takes : (plan : Plan) (st : Standing) (k : ℕ) (request : Request) (answer : Answer) → IsLawfulAnswer plan st k request.ask answer → takes request answer ≡ true
+lawful_takes plan st k request answer h = takes_by plan k request answer (st.a && st.b && is_cut plan A k) (st.a && st.b && is_cut plan B k) h
+
+-- the record and the CPU agree on what stops it
+pub not_stopping : (ask : Ask) (answer : Answer) → stop_by ask answer ≡ None → stops_cpu ask answer ≡ false
+not_stopping ask (answers.CpuStop code) h = absurd cc
+not_stopping (asks.Stop code) answers.Done h = absurd cc
+not_stopping ask answer h = refl

@@ -1,0 +1,210 @@
+-- What a good world says of the subsystem of a side: its lives and its machine.
+use Rattle.std.proofs.Common.{◌≡◌, ◌∙◌, ℕ, ◌+◌, ◌≤◌, Bool, true, false, List, [], ◌∷◌, ◌++◌, length, take, refl, ap, sym, subst, arith, Option, Some, None, MatchBool}
+use Rattle.std.specs.Prelude.{if◌then◌else◌, nat_lt, ◌&&◌, unwrap_or}
+use Rattle.std.proofs.lemmas.Bool.Decides.{nat_tests}
+use Rattle.std.proofs.lemmas.List.{take-map}
+use Rattle.s7_base.specs.declared.entry.Side.{Side}
+use Rattle.s7_base.specs.declared.entry.Side.TheVariants.{A, B}
+use Rattle.s7_base.specs.declared.entry.Loss.TheVariants.{Failed, Suspect}
+use Rattle.s7_base.specs.declared.entry.Ask.{Ask}
+use Rattle.s7_base.specs.declared.entry.Ask.TheVariants as asks
+use Rattle.s7_base.specs.declared.entry.Answer.{Answer}
+use Rattle.s7_base.specs.declared.entry.Answer.TheVariants.{Lost, Back}
+use Rattle.s7_base.specs.declared.entry.Entry.{Entry}
+use Rattle.s7_base.specs.declared.entry.StopCode.{StopCode}
+use Rattle.mc_machine.specs.Stands.{Stands}
+use Rattle.plant_script.specs.Plan.{Plan}
+use Rattle.subsystem.specs.declared.parts.Life.{Life}
+use Rattle.subsystem.specs.Part.{Part, first_life}
+use Rattle.pair_core.specs.declared.endings.Ended.{Ended}
+use Rattle.pair_core.specs.declared.endings.Ended.TheVariants.{End, Stop, NoneLeft, Spent, NotPlayed}
+use Rattle.pair_core.specs.declared.standing.Standing.{Standing}
+use Rattle.pair_core.specs.Sides.{same_side, runs, first_standing, after}
+use Rattle.pair_core.specs.Cuts.{is_cut, is_late}
+use Rattle.pair_core.specs.Stops.{stop_by}
+use Rattle.pair_core.specs.Lawful.{IsPlainAnswer, IsLawfulAnswer, LawfulFrom}
+use Rattle.pair_core.specs.Losses.{loses_by, lost_from, lost_at}
+use Rattle.pair_core.specs.Lives.{Stretch, StretchEnd, with_run, Change, loses, keeps, change_of, ends_by, began_after, stretches_from, EndsAt, IsNext, IsLife, AreLivesOf, AreLives, place_of}
+use Rattle.pair_core.specs.Lives.StretchEnd.{lost_at as is_lost_at}
+use Rattle.pair_core.specs.Played.{answers_of, IsSideOf}
+use Rattle.pair_core.specs.World.{Setup, World, part, standing_in, is_open, is_pending, has_shown, is_down, is_behind, ended}
+use Rattle.pair_core.specs.Finished.{ended_by}
+use Rattle.pair_core.specs.Places.{lives_of, StandsAfter, IsAt}
+use Rattle.pair_core.specs.Text.{HasTail}
+use Rattle.pair_core.specs.Good.{IsSameSide, Good}
+use Rattle.pair_core.proofs.Losses.{comes_back, lawful_stays, not_lost, ran_first}
+use Rattle.pair_core.proofs.Logs.{down_is, down_by}
+use Rattle.pair_core.proofs.Opens.{take_all}
+use Rattle.pair_core.proofs.Runs.{Means, ended_means}
+
+-- a loss for suspicion
+abbrev is_suspicion : Answer → Bool
+is_suspicion (Lost s Suspect) = true
+is_suspicion (Lost s Failed) = false
+is_suspicion answer = false
+
+plain_sure : (plan : Plan) (k : ℕ) (ask : Ask) (answer : Answer) → IsPlainAnswer plan k ask answer → is_suspicion answer ≡ false
+plain_sure plan k (asks.Outputs image) answer e = ap is_suspicion e
+plain_sure plan k asks.Inputs answer e = ap is_suspicion e
+plain_sure plan k asks.Cycle answer e = ap is_suspicion e
+plain_sure plan k asks.Now answer e = ap is_suspicion e
+plain_sure plan k asks.Tick answer e = ap is_suspicion e
+plain_sure plan k asks.Retrigger answer e = ap is_suspicion e
+plain_sure plan k (asks.Reply value) answer e = ap is_suspicion e
+plain_sure plan k (asks.Stop code) answer e = ap is_suspicion e
+plain_sure plan k (asks.ReadP addr width) answer e = absurd e
+plain_sure plan k (asks.WriteP addr width value) answer e = absurd e
+
+sure_by : (plan : Plan) (k : ℕ) (ask : Ask) (answer : Answer) (a b : Bool)
+    → MatchBool a (answer ≡ Lost A Failed) (MatchBool b (answer ≡ Lost B Failed) (IsPlainAnswer plan k ask answer)) → is_suspicion answer ≡ false
+sure_by plan k ask answer true b h = ap is_suspicion h
+sure_by plan k ask answer false true h = ap is_suspicion h
+sure_by plan k ask answer false false h = plain_sure plan k ask answer h
+
+-- no side is lost for suspicion yet
+lawful_sure : (plan : Plan) (st : Standing) (k : ℕ) (ask : Ask) (answer : Answer) → IsLawfulAnswer plan st k ask answer → is_suspicion answer ≡ false
+lawful_sure plan st k ask answer h = sure_by plan k ask answer (st.a && st.b && is_cut plan A k) (st.a && st.b && is_cut plan B k) h
+
+change_stays : (answer : Answer) (s : Side) → loses_by answer s ≡ false → comes_back answer ≡ false → change_of answer s ≡ keeps
+change_stays (Lost t why) s h b = ap (λ x. if x then loses why else keeps) h
+change_stays (Back t) s h b = absurd cc
+change_stays answer s h b = refl
+
+change_lost : (answer : Answer) (s : Side) → loses_by answer s ≡ true → is_suspicion answer ≡ false → change_of answer s ≡ loses Failed
+change_lost (Lost t Failed) s h b = ap (λ x. if x then loses Failed else keeps) h
+change_lost (Lost t Suspect) s h b = absurd cc
+change_lost answer s h b = absurd cc
+
+-- the end of the one stretch of a side
+abbrev end_of : Option ℕ → StretchEnd
+end_of None = with_run
+end_of (Some j) = is_lost_at Failed j
+
+abbrev next_stretches : Option ℕ → ℕ → Change → List Entry → Side → List Stretch
+next_stretches began k change es s = ends_by began k change ++ stretches_from (began_after began k change) (k + 1) es s
+
+module _ (plan : Plan) (s : Side) where
+  -- a side that is out has no further stretch
+  out_stretches : (st : Standing) (before : Option StopCode) (k : ℕ) (es : List Entry) → LawfulFrom plan st before k es → stretches_from None k es s ≡ []
+  out_stretches st before k [] lawful = refl
+  out_stretches st before k (e ∷ es) lawful =
+      let rest = out_stretches (after st e) (stop_by e.request.ask e.answer) (k + 1) es lawful.1 in
+      let P : Bool → Type 0 = λ b. loses_by e.answer s ≡ b → stretches_from None k (e ∷ es) s ≡ [] in
+      let by : P (loses_by e.answer s) = elim (loses_by e.answer s) as P [
+        | true ↦ λ l. ap (λ c. next_stretches None k c es s) (change_lost e.answer s l (lawful_sure plan st k e.request.ask e.answer lawful.0.answer)) ∙ rest
+        | false ↦ λ l. ap (λ c. next_stretches None k c es s) (change_stays e.answer s l (lawful_stays plan st k e.request.ask e.answer lawful.0.answer)) ∙ rest
+      ] in
+      by refl
+
+  -- a side that runs has one stretch, up to its loss
+  in_stretches : (first : ℕ) (st : Standing) (before : Option StopCode) (k : ℕ) (es : List Entry) → LawfulFrom plan st before k es
+      → stretches_from (Some first) k es s ≡ record { first = first; last = end_of (lost_from k es s) } ∷ []
+  in_stretches first st before k [] lawful = refl
+  in_stretches first st before k (e ∷ es) lawful =
+      let more = lawful.1 in
+      let P : Bool → Type 0 = λ b. loses_by e.answer s ≡ b → stretches_from (Some first) k (e ∷ es) s ≡ record { first = first; last = end_of (if b then Some k else lost_from (k + 1) es s) } ∷ [] in
+      let by : P (loses_by e.answer s) = elim (loses_by e.answer s) as P [
+        | true ↦ λ l.
+            ap (λ c. next_stretches (Some first) k c es s) (change_lost e.answer s l (lawful_sure plan st k e.request.ask e.answer lawful.0.answer))
+            ∙ ap (λ l. record { first = first; last = is_lost_at Failed k } ∷ l) (out_stretches (after st e) (stop_by e.request.ask e.answer) (k + 1) es more)
+        | false ↦ λ l.
+            ap (λ c. next_stretches (Some first) k c es s) (change_stays e.answer s l (lawful_stays plan st k e.request.ask e.answer lawful.0.answer))
+            ∙ in_stretches first (after st e) (stop_by e.request.ask e.answer) (k + 1) es more
+      ] in
+      by refl
+
+not_behind : (p : Setup) (w : World) (s : Side) → is_behind p w A ≡ false → is_behind p w B ≡ false → is_behind p w s ≡ false
+not_behind p w A a b = a
+not_behind p w B a b = b
+
+and_rest : (x y : Bool) → x ≡ true → (x && y) ≡ false → y ≡ false
+and_rest true y h f = f
+and_rest false y h f = absurd cc
+
+all_taken : (p : Setup) (w : World) (s : Side) → is_behind p w A ≡ false → is_behind p w B ≡ false → runs (standing_in p w.log) s ≡ true → IsSameSide p w.log s (part w s) → (part w s).place ≡ length w.log.entries
+all_taken p w s a b run h =
+    let all : nat_lt (part w s).place (length w.log.entries) ≡ false = and_rest (runs (standing_in p w.log) s) (nat_lt (part w s).place (length w.log.entries)) run (not_behind p w s a b) in
+    let here : length w.log.entries ≤ (part w s).place = grind (arith, nat_tests) in
+    omega (arith, here, h.few)
+
+-- how far a side that runs came
+ends_at : (p : Setup) (w : World) (s : Side) (o : Option Ended) → Means p w o → runs (standing_in p w.log) s ≡ true → IsSameSide p w.log s (part w s) → EndsAt (length w.log.entries) (unwrap_or o Spent) (part w s).place
+ends_at p w s (Some End) m run h = all_taken p w s m.3 m.4 run h
+ends_at p w s (Some (Stop code)) m run h = all_taken p w s m.2 m.3 run h
+ends_at p w s (Some NoneLeft) m run h = (h.few, (h.running run).near)
+ends_at p w s (Some Spent) m run h = absurd m
+ends_at p w s (Some NotPlayed) m run h = absurd m
+ends_at p w s None m run h = (h.few, (h.running run).near)
+
+next_by : (p : Setup) (w : World) (s : Side) → Good p w → runs (first_standing p.solo) s ≡ true → (o : Option ℕ) → lost_at w.log.entries s ≡ o → IsNext (length w.log.entries) (ended_by p w) (end_of o) (part w s).place
+next_by p w s good first (Some j) is = (good.sides s).lost j is
+next_by p w s good first None is =
+    let run : runs (standing_in p w.log) s ≡ true = not_lost p.plan s (first_standing p.solo) None 0 w.log.entries good.log.same.lawful is ∙ first in
+    ends_at p w s (ended p w) (ended_means p w) run (good.sides s)
+
+abbrev LivesAt : Setup → World → Side → Bool → List Life → Type 0
+LivesAt p w s began lives = AreLivesOf (length w.log.entries) (ended_by p w) (stretches_from (if began then Some 0 else None) 0 w.log.entries s) lives
+
+lives_by : (p : Setup) (w : World) (s : Side) → Good p w → (began : Bool) → runs (first_standing p.solo) s ≡ began
+    → LivesAt p w s began (if began then record first_life { next = (part w s).place } ∷ [] else [])
+lives_by p w s good true first =
+    let life : Life = record first_life { next = (part w s).place } in
+    let stretch : Stretch = record { first = 0; last = end_of (lost_at w.log.entries s) } in
+    let here : IsLife (length w.log.entries) (ended_by p w) stretch life =
+    record { first = refl; how = refl; above = omega arith; next = next_by p w s good first (lost_at w.log.entries s) refl } in
+    subst (λ l. AreLivesOf (length w.log.entries) (ended_by p w) l (life ∷ [])) (sym (in_stretches p.plan s 0 (first_standing p.solo) None 0 w.log.entries good.log.same.lawful)) (here, tt)
+lives_by p w s good false first =
+    subst (λ l. AreLivesOf (length w.log.entries) (ended_by p w) l []) (sym (out_stretches p.plan s (first_standing p.solo) None 0 w.log.entries good.log.same.lawful)) tt
+
+-- the lives of a subsystem that stands where the pair says are those of its side
+side_lives : (p : Setup) (w : World) (s : Side) (lives : List Life) → Good p w → lives ≡ lives_of (part w s) → AreLives p.solo w.log.entries (ended_by p w) s lives
+side_lives p w s lives good is =
+    let began = runs (first_standing p.solo) s in
+    let mine : lives ≡ (if began then record first_life { next = (part w s).place } ∷ [] else []) = is ∙ ap (λ b. if b then record first_life { next = (part w s).place } ∷ [] else []) (good.sides s).loaded in
+    subst (λ l. LivesAt p w s began l) (sym mine) (lives_by p w s good began refl)
+
+uncut_up : (early cut late same pending shown : Bool) → cut ≡ false → down_by early cut late same pending shown ≡ false
+uncut_up true true late same pending shown h = absurd cc
+uncut_up true false late same pending shown h = refl
+uncut_up false cut late same pending shown h = refl
+
+-- a subsystem that stands where the pair says is that of its side after the run
+pub side_of : (p : Setup) (w : World) (s : Side) (sub : Part) → Good p w → IsAt p.program (part w s) w.log.entries sub → IsSideOf p.program p.plan p.solo w.log.entries (ended_by p w) s sub
+side_of p w s sub good at_own = record {
+  lives = side_lives p w s sub.lives good at_own.lives;
+  machine = λ run uncut. (
+      let n = length w.log.entries in
+      let up : is_down p w.log s ≡ false = down_is p w.log s ∙ uncut_up (is_open p w.log) (is_cut p.plan s n) (is_late p.plan s n) (same_side s (standing_in p w.log).master) (is_pending w.log) (has_shown w.log s) uncut in
+      let alive = ((good.sides s).running run).alive up in
+      let stands = (at_own.machine alive).stands in
+      let loaded : (part w s).loaded ≡ true = (good.sides s).loaded ∙ ran_first p.plan s (first_standing p.solo) None 0 w.log.entries good.log.same.lawful run in
+      let place : place_of sub.lives ≡ (part w s).place = ap place_of at_own.lives ∙ ap (λ b. place_of (if b then record first_life { next = (part w s).place } ∷ [] else [])) loaded in
+      let taken : take (place_of sub.lives) (answers_of w.log.entries) ≡ answers_of (take (part w s).place w.log.entries) =
+      ap (λ k. take k (answers_of w.log.entries)) place ∙ take-map (λ (e : Entry). e.answer) (part w s).place w.log.entries in
+      subst (λ l. Stands p.program l sub.machine) (sym taken) stands
+      );
+}
+
+-- a run that has a tail is closed, and each side that runs has taken all entries
+ends_whole : (p : Setup) (w : World) (s : Side) (o : Option Ended) → Means p w o → HasTail (unwrap_or o Spent) → runs (standing_in p w.log) s ≡ true
+    → IsSameSide p w.log s (part w s) → (is_open p w.log ≡ false) × ((part w s).place ≡ length w.log.entries)
+ends_whole p w s (Some End) m tail run h = (m.0, all_taken p w s m.3 m.4 run h)
+ends_whole p w s (Some (Stop code)) m tail run h = (m.0, all_taken p w s m.2 m.3 run h)
+ends_whole p w s (Some NoneLeft) m tail run h = absurd tail
+ends_whole p w s (Some Spent) m tail run h = absurd m
+ends_whole p w s (Some NotPlayed) m tail run h = absurd m
+ends_whole p w s None m tail run h = absurd tail
+
+closed_up : (on cut late same pending shown : Bool) → on ≡ false → down_by on cut late same pending shown ≡ false
+closed_up false cut late same pending shown h = refl
+closed_up true cut late same pending shown h = absurd cc
+
+-- of a run that has a tail, the machine of each side that runs is the standard CPU's after all entries
+pub last_stands : (p : Setup) (w : World) (s : Side) (sub : Part) → Good p w → HasTail (ended_by p w) → runs (standing_in p w.log) s ≡ true
+    → IsAt p.program (part w s) w.log.entries sub → StandsAfter p.program w.log.entries sub.machine
+last_stands p w s sub good tail run at_own =
+    let n = length w.log.entries in
+    let whole = ends_whole p w s (ended p w) (ended_means p w) tail run (good.sides s) in
+    let up : is_down p w.log s ≡ false = down_is p w.log s ∙ closed_up (is_open p w.log) (is_cut p.plan s n) (is_late p.plan s n) (same_side s (standing_in p w.log).master) (is_pending w.log) (has_shown w.log s) whole.0 in
+    let alive = ((good.sides s).running run).alive up in
+    subst (λ es. StandsAfter p.program es sub.machine) (take_all w.log.entries (part w s).place whole.1) (at_own.machine alive)

@@ -1,0 +1,170 @@
+-- A subsystem takes an entry of the record.
+use Rattle.std.proofs.Common.{◌≡◌, ◌∙◌, ℕ, ◌+◌, ◌≤◌, true, false, List, [], ◌∷◌, ◌++◌, length, take, drop, Option, Some, None, refl, ap, sym, subst, append_assoc, append-nil, add-zero, add-one, slice_get}
+use Rattle.std.proofs.lemmas.List.{take-append-drop, take_more, length-map, length-take-le}
+use Rattle.std.proofs.lemmas.Option.{slice_get_within, get_or_from_slice_get}
+use Rattle.std.proofs.Math.Seq.{drop-cons}
+use Rattle.s7_base.specs.declared.entry.Side.{Side}
+use Rattle.s7_base.specs.declared.entry.Side.TheVariants.{A, B}
+use Rattle.s7_base.specs.declared.entry.Request.{Request}
+use Rattle.s7_base.specs.declared.entry.Answer.{Answer}
+use Rattle.s7_base.specs.declared.entry.Entry.{Entry}
+use Rattle.s7_base.specs.declared.entry.StopCode.{StopCode}
+use Rattle.s7_base.specs.Blocks.{Program}
+use Rattle.mc_machine.specs.Meaning.{std, next_of, asked_after, takes, stops_cpu}
+use Rattle.mc_machine.specs.Stands.{Running, CanAsk, CanTake, CanGoOn, IsTaken, GoesOn, WaitsAt, Stands, CpuWaits}
+use Rattle.subsystem.specs.declared.parts.Life.{Life}
+use Rattle.subsystem.specs.Part.{Part, first_life, TookOne}
+use Rattle.plant_script.specs.Plan.{Plan}
+use Rattle.pair_core.specs.declared.standing.Standing.{Standing}
+use Rattle.pair_core.specs.declared.own.Own.{Own}
+use Rattle.pair_core.specs.Sides.{first_standing, standing_from, after}
+use Rattle.pair_core.specs.Lawful.{MayStand, LawfulFrom}
+use Rattle.pair_core.specs.Stops.{stop_by, stop_from, stop_of}
+use Rattle.pair_core.specs.Played.{requests_of, answers_of}
+use Rattle.pair_core.specs.declared.own.Parts.{Parts}
+use Rattle.pair_core.specs.World.{Setup, Log, taken_one, part_in, with_part}
+use Rattle.pair_core.specs.Places.{lives_of, IsAt}
+use Rattle.pair_core.specs.Good.{GoodLog}
+use Rattle.pair_core.proofs.Lasts.{stop_snoc}
+use Rattle.pair_core.proofs.Snoc.{shift, answers_snoc}
+use Rattle.pair_core.proofs.Answers.{lawful_takes, not_stopping}
+
+-- an entry in the middle of a lawful record may stand there
+lawful_mid : (plan : Plan) (st : Standing) (before : Option StopCode) (k : ℕ) (front : List Entry) (e : Entry) (rest : List Entry)
+    → LawfulFrom plan st before k (front ++ e ∷ rest) → MayStand plan (standing_from st front) (stop_from before front) (k + length front) e
+lawful_mid plan st before k [] e rest h = rw add-zero h.0
+lawful_mid plan st before k (x ∷ xs) e rest h =
+    rw (shift k (length xs)) (lawful_mid plan (after st x) (stop_by x.request.ask x.answer) (k + 1) xs e rest h.1)
+
+-- the request of an entry in the middle is what the CPU asks there
+asked_mid : (program : Program) (before : List Answer) (front : List Entry) (e : Entry) (rest : List Entry)
+    → requests_of (front ++ e ∷ rest) ≡ asked_after program before (answers_of (front ++ e ∷ rest)) → next_of (std program (before ++ answers_of front)) ≡ Some e.request
+asked_mid program before [] e rest h =
+    let same : next_of (std program before) ≡ Some e.request = cc in
+    ap (λ l. next_of (std program l)) (append-nil before) ∙ same
+asked_mid program before (x ∷ xs) e rest h =
+    let more : requests_of (xs ++ e ∷ rest) ≡ asked_after program (before ++ x.answer ∷ []) (answers_of (xs ++ e ∷ rest)) = cc in
+    ap (λ l. next_of (std program l)) (sym (append_assoc before (x.answer ∷ []) (answers_of xs))) ∙ asked_mid program (before ++ x.answer ∷ []) xs e rest more
+
+drop_at : (xs : List Entry) (k : ℕ) (x : Entry) → slice_get xs k ≡ Some x → drop k xs ≡ x ∷ drop (k + 1) xs
+drop_at xs k x here =
+    let within = slice_get_within xs k x here in
+    let get = get_or_from_slice_get xs k x x here in
+    rw (add-one, drop-cons xs k x within, get)
+
+split_at : (es : List Entry) (k : ℕ) (e : Entry) → slice_get es k ≡ Some e → es ≡ take k es ++ e ∷ drop (k + 1) es
+split_at es k e here = sym (take-append-drop k es) ∙ ap (λ (l : List Entry). take k es ++ l) (drop_at es k e here)
+
+-- what is known of an entry of a good record
+pub record IsMet (p : Setup) (l : Log) (k : ℕ) (e : Entry) : Type 0 where
+  pub going : stop_of (take k l.entries) ≡ None
+  pub fits : takes e.request e.answer ≡ true
+  pub asked : next_of (std p.program (answers_of (take k l.entries))) ≡ Some e.request
+
+pub met : (p : Setup) (l : Log) (k : ℕ) (e : Entry) → GoodLog p l → slice_get l.entries k ≡ Some e → IsMet p l k e
+met p l k e good here =
+    let is : l.entries ≡ take k l.entries ++ e ∷ drop (k + 1) l.entries = split_at l.entries k e here in
+    let front = take k l.entries in
+    let rest = drop (k + 1) l.entries in
+    let may : MayStand p.plan (standing_from (first_standing p.solo) front) (stop_from None front) (0 + length front) e =
+    lawful_mid p.plan (first_standing p.solo) None 0 front e rest (subst (λ es. LawfulFrom p.plan (first_standing p.solo) None 0 es) is good.same.lawful) in
+    record {
+      going = may.going;
+      fits = lawful_takes p.plan (standing_from (first_standing p.solo) front) (0 + length front) e.request e.answer may.answer;
+      asked = asked_mid p.program [] front e rest (subst (λ es. requests_of es ≡ asked_after p.program [] (answers_of es)) is good.same.requests);
+    }
+
+-- the machine ---------------------------------------------------------------
+
+pub waits_next : (program : Program) (given : List Answer) (request : Request) (machine : Option Running) → CpuWaits program given request machine → next_of (std program given) ≡ Some request
+waits_next program given request None waits = absurd waits
+waits_next program given request (Some running) waits = ap next_of waits.1
+
+pub can_take : (machine : Option Running) (request : Request) (answer : Answer) → WaitsAt machine request → takes request answer ≡ true → CanTake machine answer
+can_take None request answer waits fits = absurd waits
+can_take (Some running) request answer waits fits = subst (λ o. IsTaken o answer) (sym waits) fits
+
+can_go_on : (machine : Option Running) (request : Request) (answer : Answer) → WaitsAt machine request → stops_cpu request.ask answer ≡ false → CanGoOn machine answer
+can_go_on None request answer waits on = absurd waits
+can_go_on (Some running) request answer waits on = subst (λ o. GoesOn o answer) (sym waits) on
+
+-- a subsystem that stands where its part says can be asked
+pub can_ask_at : (program : Program) (own : Own) (es : List Entry) (s : Part) → IsAt program own es s → own.alive ≡ true → stop_of (take own.place es) ≡ None → CanAsk s.machine
+can_ask_at program own es s at_old alive going = (at_old.machine alive).going going
+
+pub stands_at : (program : Program) (own : Own) (es : List Entry) (s : Part) → IsAt program own es s → own.alive ≡ true → Stands program (answers_of (take own.place es)) s.machine
+stands_at program own es s at_old alive = (at_old.machine alive).stands
+
+-- the machine waits at the request that the CPU makes
+pub asked_same : (program : Program) (own : Own) (es : List Entry) (s new : Part) (request asks : Request)
+    → IsAt program own es s → own.alive ≡ true
+    → (Stands program (answers_of (take own.place es)) s.machine → CpuWaits program (answers_of (take own.place es)) asks new.machine)
+    → next_of (std program (answers_of (take own.place es))) ≡ Some request → asks ≡ request
+asked_same program own es s new request asks at_old alive next is =
+    let mine : next_of (std program (answers_of (take own.place es))) ≡ Some asks = waits_next program (answers_of (take own.place es)) asks new.machine (next (stands_at program own es s at_old alive)) in
+    cc
+
+-- a machine that waits at the record's request takes the record's answer
+pub takes_next : (program : Program) (own : Own) (es : List Entry) (s new : Part) (request asks : Request) (answer : Answer)
+    → IsAt program own es s → own.alive ≡ true → WaitsAt new.machine asks
+    → (Stands program (answers_of (take own.place es)) s.machine → CpuWaits program (answers_of (take own.place es)) asks new.machine)
+    → next_of (std program (answers_of (take own.place es))) ≡ Some request → takes request answer ≡ true → CanTake new.machine answer
+takes_next program own es s new request asks answer at_old alive waits next is fits =
+    let same : asks ≡ request = asked_same program own es s new request asks at_old alive next is in
+    can_take new.machine asks answer waits (subst (λ r. takes r answer ≡ true) (sym same) fits)
+
+-- the lives ----------------------------------------------------------------
+
+one_front : (front : List Life) (x y : Life) → y ∷ [] ≡ front ++ x ∷ [] → (front ≡ []) × (x ≡ y)
+one_front [] x y h = (refl, cc)
+one_front (z ∷ []) x y h = absurd (let n : [] ≡ x ∷ [] = cc in cc)
+one_front (z ∷ w ∷ front) x y h = absurd (let n : [] ≡ w ∷ (front ++ x ∷ []) = cc in cc)
+
+-- a side that began by a load has its one life longer by one entry
+life_longer : (own : Own) (old new : List Life) → own.loaded ≡ true → old ≡ lives_of own → TookOne old new → new ≡ lives_of (taken_one own)
+life_longer own old new loaded is took =
+    let mine : record first_life { next = own.place } ∷ [] ≡ took.front ++ took.life ∷ [] = (rw loaded at (sym is)) ∙ took.before in
+    let split = one_front took.front took.life (record first_life { next = own.place }) mine in
+    rw loaded (took.now ∙ ap (λ front. front ++ record (took.life) { next = took.life.next + 1 } ∷ []) split.0 ∙ ap (λ (life : Life). record life { next = life.next + 1 } ∷ []) split.1)
+
+-- an entry is taken --------------------------------------------------------
+
+-- a side that has taken an entry stands behind it
+pub took : (program : Program) (own : Own) (before fs : List Entry) (e : Entry) (mid new : Part) (request : Request)
+    → own.alive ≡ true → own.loaded ≡ true → mid.lives ≡ lives_of own → WaitsAt mid.machine request → request ≡ e.request
+    → take (own.place + 1) fs ≡ before ++ e ∷ []
+    → TookOne mid.lives new.lives → (CanGoOn mid.machine e.answer → CanAsk new.machine) → Stands program (answers_of before ++ e.answer ∷ []) new.machine
+    → IsAt program (taken_one own) fs new
+took program own before fs e mid new request alive loaded lives waits asks more longer going stands = record {
+  lives = life_longer own mid.lives new.lives loaded lives longer;
+  idle = λ off. absurd cc;
+  machine = λ on. record {
+    stands = subst (λ l. Stands program l new.machine) (sym (ap answers_of more ∙ answers_snoc before e)) stands;
+    going = λ free. (
+        let none : stop_by e.request.ask e.answer ≡ None = sym (stop_snoc None before e) ∙ ap stop_of (sym more) ∙ free in
+        let mine : stops_cpu request.ask e.answer ≡ false = ap (λ r. stops_cpu r.ask e.answer) asks ∙ not_stopping e.request.ask e.answer none in
+        going (can_go_on mid.machine request e.answer waits mine)
+        );
+  };
+}
+
+pub answers_length : (es : List Entry) (k : ℕ) → k ≤ length es → length (answers_of (take k es)) ≡ k
+answers_length es k few = length-map (take k es) (λ (x : Entry). x.answer) ∙ length-take-le k es few
+
+-- the entries before and including entry k
+pub take_next : (es : List Entry) (k : ℕ) (e : Entry) → slice_get es k ≡ Some e → take (k + 1) es ≡ take k es ++ e ∷ []
+take_next es k e here =
+    let within = slice_get_within es k e here in
+    take_more es k e within ∙ ap (λ (x : Entry). take k es ++ x ∷ []) (get_or_from_slice_get es k e e here)
+
+part_put : (parts : Parts) (side : Side) (own : Own) → part_in (with_part parts side own) side ≡ own
+part_put parts A own = refl
+part_put parts B own = refl
+
+-- what is kept of a side that has taken an entry
+pub put_taken : (parts new : Parts) (side : Side) (own : Own) (program : Program) (es : List Entry) (s : Part) → own ≡ part_in parts side
+    → new ≡ with_part parts side (record own { place = own.place + 1 })
+    → IsAt program (taken_one (part_in parts side)) es s → IsAt program (part_in new side) es s
+put_taken parts new side own program es s is put h =
+    let same : part_in new side ≡ taken_one (part_in parts side) = ap (λ ps. part_in ps side) put ∙ (part_put parts side (record own { place = own.place + 1 }) ∙ ap taken_one is) in
+    subst (λ o. IsAt program o es s) (sym same) h

@@ -1,0 +1,40 @@
+use Rattle.std.proofs.Common.{◌≡◌, ◌∙◌, ◌*◌, [], length, ap, sym, subst, arith}
+use Rattle.s7_base.specs.declared.entry.Side.TheVariants.{A, B}
+use Rattle.pair_core.specs.Sides.{standing}
+use Rattle.pair_core.specs.CutsKept.{IsCutsAt}
+use Rattle.pair_core.specs.World.{Setup, shown_past, first_world}
+use Rattle.pair_core.specs.Good.{Good}
+use Rattle.pair_core.specs.Progress.{IsAlone}
+use Rattle.pair_core.proofs.Visits.{good_first}
+use Rattle.pair_core.proofs.Progress.{alone_first}
+use Rattle.pair_core.proofs.pair.Pair.new.Goals as goal
+
+pub invariant_of-result : goal.invariant_of-result
+invariant_of-result c =
+    let none : c.in_ok-log.log.entries ≡ [] = ap (λ l. l.entries) c.in_ok-log.ensures in
+    let unshown : c.in_ok-shown.shown.list ≡ [] = ap (λ l. l.list) c.in_ok-shown.ensures in
+    let setup : Setup = record { program = c.in_ok-program.program; plan = c.args.script; solo = c.args.solo } in (
+      record {
+        standing = c.first.ensures ∙ ap (λ es. standing c.args.solo es) (sym none);
+        shown_a = ap (λ xs. shown_past xs A) (sym unshown);
+        shown_b = ap (λ xs. shown_past xs B) (sym unshown);
+        image = (0, omega arith, c.new.ensures c.args.script 0);
+        cuts = subst (λ k. IsCutsAt c.args.script k c.new-cuts.result) (sym (ap length none)) c.new-cuts.ensures;
+        few = omega (arith, ap length none);
+        plan = c.end-end.ensures.form;
+        room = ap (λ l. l.room) c.in_ok-log.ensures ∙ c.end-end.ensures.value;
+        shown_room = ap (λ l. l.room) c.in_ok-shown.ensures ∙ ap (λ n. 2 * n) c.end-end.ensures.value;
+      },
+      subst (λ es. Good setup (record { log = record { entries = es; shown = c.in_ok-shown.shown.list; marked = 0 }; parts = (first_world c.args.solo).parts })) (sym none)
+          (subst (λ xs. Good setup (record { log = record { entries = []; shown = xs; marked = 0 }; parts = (first_world c.args.solo).parts })) (sym unshown)
+          (good_first setup c.end-end.ensures.form)),
+    )
+
+pub returns-clause-alone : goal.returns-clause-alone
+returns-clause-alone c = λ alone.
+    let none : c.in_ok-log.log.entries ≡ [] = ap (λ l. l.entries) c.in_ok-log.ensures in
+    let unshown : c.in_ok-shown.shown.list ≡ [] = ap (λ l. l.list) c.in_ok-shown.ensures in
+    let setup : Setup = record { program = c.in_ok-program.program; plan = c.args.script; solo = c.args.solo } in
+    subst (λ es. IsAlone setup (record { log = record { entries = es; shown = c.in_ok-shown.shown.list; marked = 0 }; parts = (first_world c.args.solo).parts }) 0) (sym none)
+    (subst (λ xs. IsAlone setup (record { log = record { entries = []; shown = xs; marked = 0 }; parts = (first_world c.args.solo).parts }) 0) (sym unshown)
+    (alone_first setup alone))

@@ -1,0 +1,40 @@
+use Rattle.std.proofs.Common.{◌≡◌, ◌∙◌, ◌≤◌, length, take, sym, ap, arith}
+use Rattle.pair_core.specs.World.{part_in}
+use Rattle.pair_core.specs.Kept.{setup_of, log_of}
+use Rattle.pair_core.specs.Played.{answers_of}
+use Rattle.pair_core.proofs.Taking.{met, can_ask_at, takes_next, stands_at, asked_same, answers_length, take_next, put_taken, took}
+use Rattle.pair_core.proofs.state.State.take.Goals as goal
+
+pub ask-requires : goal.ask-requires
+ask-requires c =
+    let own = part_in c.args.self.now.parts c.args.side in
+    let here = rw (ap (λ o. o.place) c.get-own.ensures) at c.entry.ensures in
+    let m = met (setup_of c.args.self.now) (log_of c.args.self.now) own.place c.entry.result.now c.requires.good here in
+    can_ask_at c.args.self.now.program own c.args.self.now.log.entries c.args.sub.now c.requires.at c.requires.can.0 m.going
+
+pub take-requires-clause-takes : goal.take-requires-clause-takes
+take-requires-clause-takes c =
+    let own = part_in c.args.self.now.parts c.args.side in
+    let here = rw (ap (λ o. o.place) c.get-own.ensures) at c.entry.ensures in
+    let m = met (setup_of c.args.self.now) (log_of c.args.self.now) own.place c.entry.result.now c.requires.good here in
+    takes_next c.args.self.now.program own c.args.self.now.log.entries c.args.sub.now c.ask.new.self c.entry.result.now.request c.ask.result c.entry.result.now.answer
+    c.requires.at c.requires.can.0 c.ask.ensures.waits (c.ask.ensures.next c.args.self.now.program _) m.asked m.fits
+
+pub returns-clause-at : goal.returns-clause-at
+returns-clause-at c =
+    let self = c.args.self.now in
+    let own = part_in self.parts c.args.side in
+    let es = self.log.entries in
+    let e = c.entry.result.now in
+    let here = rw (ap (λ o. o.place) c.get-own.ensures) at c.entry.ensures in
+    let m = met (setup_of self) (log_of self) own.place e c.requires.good here in
+    let alive = c.requires.can.0 in
+    let given = answers_of (take own.place es) in
+    let lives = c.ask.ensures.lives ∙ c.requires.at.lives in
+    let asks = asked_same self.program own es c.args.sub.now c.ask.new.self e.request c.ask.result c.requires.at alive (c.ask.ensures.next self.program given) m.asked in
+    let less : own.place ≤ length es = omega (arith, c.requires.can.2) in
+    let moment : c.from.result ≡ length given = c.from.ensures ∙ ap (λ o. o.place) c.get-own.ensures ∙ sym (answers_length es own.place less) in
+    let stands = c.ask.ensures.stands self.program given (stands_at self.program own es c.args.sub.now c.requires.at alive) in
+    put_taken c.args.self.now.parts c.put.new.self c.args.side c.get-own.result self.program es c.take.new.self c.get-own.ensures c.put.ensures
+    (took self.program own (take own.place es) es e c.ask.new.self c.take.new.self c.ask.result alive c.requires.can.1 lives c.ask.ensures.waits asks
+    (take_next es own.place e here) c.take.ensures.lives c.take.ensures.going (c.take.ensures.stands self.program given moment stands))

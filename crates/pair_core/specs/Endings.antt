@@ -1,0 +1,57 @@
+-- How a run ended, by its record and its showings.
+use Rattle.std.specs.Prelude.{◌≡◌, ℕ, ◌-◌, ◌<◌, ◌==◌, Bool, true, false, not, ◌&&◌, ◌||◌, List, [], ◌∷◌, length, take, Some, None}
+use mathlib.Core.List.{IsPrefix}
+use Rattle.s7_base.specs.declared.entry.Side.{Side}
+use Rattle.s7_base.specs.declared.entry.Side.TheVariants.{A, B}
+use Rattle.s7_base.specs.declared.entry.Entry.{Entry}
+use Rattle.pair_core.specs.declared.endings.Ended.{Ended}
+use Rattle.pair_core.specs.declared.endings.Ended.TheVariants.{End, Stop, NoneLeft, Spent, NotPlayed}
+use Rattle.plant_script.specs.Plan.{Plan}
+use Rattle.pair_core.specs.Cuts.{is_cut, is_late}
+use Rattle.pair_core.specs.Sides.{same_side, runs, standing}
+use Rattle.pair_core.specs.Showings.{is_output, shown_of}
+use Rattle.pair_core.specs.Stops.{stop_of}
+
+abbrev pub is_pending_from : Bool → List Entry → Bool
+is_pending_from before [] = before
+is_pending_from before (e ∷ es) = is_pending_from (is_output e) es
+
+-- the last entry is an output
+abbrev pub ends_by_output : List Entry → Bool
+ends_by_output es = is_pending_from false es
+
+abbrev pub has_shown_from : Bool → List (ℕ × Side) → ℕ → Side → Bool
+has_shown_from before [] k side = before
+has_shown_from before (s ∷ shown) k side = has_shown_from (before || (s.0 == k && same_side s.1 side)) shown k side
+
+-- the side has shown the last entry
+abbrev pub has_shown_last : List Entry → List (ℕ × Side) → Side → Bool
+has_shown_last es shown side = has_shown_from false shown (length es - 1) side
+
+-- the script stops the side, and if it is a late master it has shown the last output
+abbrev pub is_gone : Plan → Bool → List Entry → List (ℕ × Side) → Side → Bool
+is_gone plan solo es shown side =
+    is_cut plan side (length es)
+    && not (is_late plan side (length es) && same_side side (standing solo es).master && ends_by_output es && not (has_shown_last es shown side))
+
+abbrev pub stays_in : Plan → Bool → List Entry → List (ℕ × Side) → Side → Bool
+stays_in plan solo es shown side = runs (standing solo es) side && not (is_gone plan solo es shown side)
+
+-- by a stop: the last entry stops the CPU; at the end: the record is full; by none: no side is left; spent: only with two
+-- sides and given letters, while a side is left or all that is missing are the takings and marks
+abbrev pub IsEnded : Plan → Bool → List Entry → List (ℕ × Side) → Ended → Type 0
+IsEnded plan solo es shown End = (stop_of es ≡ None) × (length es ≡ plan.end)
+IsEnded plan solo es shown (Stop code) = stop_of es ≡ Some code
+IsEnded plan solo es shown NoneLeft =
+    (stop_of es ≡ None) × (length es < plan.end) × (stays_in plan solo es shown A ≡ false) × (stays_in plan solo es shown B ≡ false)
+IsEnded plan solo es shown Spent =
+    (solo ≡ false) × (stop_of es ≡ None → length es < plan.end → (stays_in plan solo es shown A || stays_in plan solo es shown B) ≡ true)
+IsEnded plan solo es shown NotPlayed = ⊥
+
+-- the showings of a run that ended: all of them, but that those of the last entry may be cut short where the letters were used up
+abbrev pub IsShown : Plan → Bool → List Entry → Ended → List (ℕ × Side) → Type 0
+IsShown plan solo es End shown = shown ≡ shown_of plan solo es
+IsShown plan solo es (Stop code) shown = shown ≡ shown_of plan solo es
+IsShown plan solo es NoneLeft shown = shown ≡ shown_of plan solo es
+IsShown plan solo es Spent shown = IsPrefix (shown_of plan solo (take (length es - 1) es)) shown × IsPrefix shown (shown_of plan solo es)
+IsShown plan solo es NotPlayed shown = ⊥

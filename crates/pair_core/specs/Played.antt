@@ -1,0 +1,38 @@
+-- What a play is, over its record, its showings, its end and its subsystems.
+use Rattle.std.specs.Prelude.{◌≡◌, ℕ, Bool, true, false, List, length, map, take, Option, Some}
+use Rattle.s7_base.specs.declared.entry.Side.{Side}
+use Rattle.s7_base.specs.declared.entry.Request.{Request}
+use Rattle.s7_base.specs.declared.entry.Answer.{Answer}
+use Rattle.s7_base.specs.declared.entry.Entry.{Entry}
+use Rattle.s7_base.specs.Blocks.{Program}
+use Rattle.mc_machine.specs.Meaning.{asked}
+use Rattle.mc_machine.specs.Stands.{Stands}
+use Rattle.pair_core.specs.declared.endings.Ended.{Ended}
+use Rattle.plant_script.specs.Plan.{Plan}
+use Rattle.pair_core.specs.Cuts.{is_cut}
+use Rattle.pair_core.specs.Sides.{runs, standing}
+use Rattle.pair_core.specs.Lawful.{Lawful}
+use Rattle.pair_core.specs.Endings.{IsEnded, IsShown}
+use Rattle.pair_core.specs.Lives.{AreLives, place_of}
+use Rattle.subsystem.specs.Part.{Part}
+
+abbrev pub requests_of : List Entry → List (Option Request)
+requests_of entries = map (λ entry. Some entry.request) entries
+
+abbrev pub answers_of : List Entry → List Answer
+answers_of entries = map (λ entry. entry.answer) entries
+
+-- The record's requests are those that one standard CPU makes given the record's answers, the answers are lawful for the
+-- script, and the showings and the end are those of the record.
+pub record IsRun (program : Program) (plan : Plan) (solo : Bool) (entries : List Entry) (showings : List (ℕ × Side)) (ending : Ended) : Type 0 where
+  pub requests : requests_of entries ≡ asked program (answers_of entries)
+  pub lawful : Lawful plan solo entries
+  pub shown : IsShown plan solo entries ending showings
+  pub ended : IsEnded plan solo entries showings ending
+
+-- A subsystem after a run: its lives are those of its side, and where the side runs and is not cut its machine stands for
+-- the CPU after as many answers as it took.
+pub record IsSideOf (program : Program) (plan : Plan) (solo : Bool) (entries : List Entry) (ended : Ended) (side : Side) (part : Part) : Type 0 where
+  pub lives : AreLives solo entries ended side part.lives
+  pub machine : runs (standing solo entries) side ≡ true → is_cut plan side (length entries) ≡ false
+      → Stands program (take (place_of part.lives) (answers_of entries)) part.machine

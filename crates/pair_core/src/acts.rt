@@ -1,0 +1,190 @@
+//! What a visit does.
+ghost use Rattle.std.specs.Prelude.{◌≡◌, ◌+◌, ◌*◌, ◌<◌, ◌++◌, ◌∷◌, [], true, length, Some, is_some};
+ghost use Rattle.mc_machine.specs.Stands.{IsAsked};
+ghost use Rattle.pair_core.specs.declared.turns.Act as Act;
+ghost use Rattle.pair_core.specs.Turns.{answer_at};
+ghost use Rattle.pair_core.specs.World.{part_in, with_part, acted, standing_in, next_entry, with_entry};
+ghost use Rattle.pair_core.specs.Kept.{setup_of, log_of, world_of, IsKept, CanAct};
+ghost use Rattle.pair_core.specs.Places.{IsAt};
+ghost use Rattle.pair_core.specs.Good.{GoodLog};
+
+use crate::own::Own;
+use crate::sides::other;
+use crate::state::{State, plain_answer};
+use crate::turns::Act;
+use crate::{Reason, Turn};
+use s7_base::{Answer, Ask, Entry, Loss, Side};
+use subsystem::Subsystem;
+
+impl State {
+    /// The lawful answer to what is asked next: of two sides that run, the one that is cut is lost.
+    fn answer(&mut self, ask: &Ask) -> Answer
+        requires kept { IsKept self.old }
+        requires asked { IsAsked ask.now }
+        ensures answer { answer_at self.old.script (standing_in (setup_of self.old) (log_of self.old)) (length self.old.log.entries) ask.now ≡ Some result }
+        ensures world { world_of self.new ≡ world_of self.old }
+        ensures setup { setup_of self.new ≡ setup_of self.old }
+        ensures kept { IsKept self.new }
+    {
+        if self.standing.a && self.standing.b {
+            if self.is_cut(Side::A) {
+                return Answer::Lost {
+                    side: Side::A,
+                    why: Loss::Failed,
+                };
+            }
+            if self.is_cut(Side::B) {
+                return Answer::Lost {
+                    side: Side::B,
+                    why: Loss::Failed,
+                };
+            }
+        }
+        let moment = self.len();
+        plain_answer(&self.script, &mut self.image, ask, moment)
+    }
+
+    /// Adds an entry to the record.
+    fn add(&mut self, entry: Entry)
+        requires kept { IsKept self.old }
+        requires room { length self.old.log.entries < self.old.script.end }
+        ensures log { log_of self.new ≡ with_entry (log_of self.old) entry }
+        ensures parts { self.new.parts ≡ self.old.parts }
+        ensures setup { setup_of self.new ≡ setup_of self.old }
+        ensures kept { IsKept self.new }
+    {
+        self.standing = self.standing.after(&entry.answer);
+        self.log.append(entry);
+        self.cuts = self.cuts.advance(&self.script, self.log.len());
+    }
+
+    /// The side shows the last output.
+    #[tactic(auto, using(crate::proofs::Snoc::shown_past_snoc))]
+    fn show(&mut self, side: Side) -> Turn
+        requires kept { IsKept self.old }
+        requires can { CanAct (setup_of self.old) (world_of self.old) side Act.Show }
+        ensures world { world_of self.new ≡ (acted (setup_of self.old) (world_of self.old) side Act.Show).world }
+        ensures turn { result ≡ (acted (setup_of self.old) (world_of self.old) side Act.Show).answer }
+        ensures setup { setup_of self.new ≡ setup_of self.old }
+        ensures kept { IsKept self.new }
+    {
+        let entry = self.len() - 1;
+        self.shown.add(entry, side);
+        match side {
+            Side::A => self.shown_by_a = entry + 1,
+            Side::B => self.shown_by_b = entry + 1,
+        }
+        Turn::Show(entry)
+    }
+
+    /// The side takes its next entry.
+    fn take(&mut self, side: Side, sub: &mut Subsystem) -> Turn
+        requires kept { IsKept self.old }
+        requires good { GoodLog (setup_of self.old) (log_of self.old) }
+        requires can { CanAct (setup_of self.old) (world_of self.old) side Act.Take }
+        requires at { IsAt self.old.program (part_in self.old.parts side) self.old.log.entries sub.old }
+        ensures world { world_of self.new ≡ (acted (setup_of self.old) (world_of self.old) side Act.Take).world }
+        ensures turn { result ≡ (acted (setup_of self.old) (world_of self.old) side Act.Take).answer }
+        ensures setup { setup_of self.new ≡ setup_of self.old }
+        ensures kept { IsKept self.new }
+        ensures at { IsAt self.new.program (part_in self.new.parts side) self.new.log.entries sub.new }
+    {
+        let own = self.parts.get(side);
+        let moment = own.place;
+        let entry = *self.log.entry(moment);
+        sub.ask();
+        sub.take(&entry.answer, u64::from(moment));
+        self.parts.put(
+            side,
+            Own {
+                place: moment + 1,
+                ..own
+            },
+        );
+        Turn::Answered(moment)
+    }
+
+    /// The side appends the entry of its request and the lawful answer, and takes it.
+    fn append(&mut self, side: Side, sub: &mut Subsystem) -> Turn
+        requires kept { IsKept self.old }
+        requires can { CanAct (setup_of self.old) (world_of self.old) side Act.Append }
+        requires at { IsAt self.old.program (part_in self.old.parts side) self.old.log.entries sub.old }
+        ensures world { world_of self.new ≡ (acted (setup_of self.old) (world_of self.old) side Act.Append).world }
+        ensures turn { result ≡ (acted (setup_of self.old) (world_of self.old) side Act.Append).answer }
+        // an entry comes next
+        ensures next { is_some (next_entry (setup_of self.old) (log_of self.old)) ≡ true }
+        ensures setup { setup_of self.new ≡ setup_of self.old }
+        ensures kept { IsKept self.new }
+        ensures at { IsAt self.new.program (part_in self.new.parts side) self.new.log.entries sub.new }
+    {
+        let moment = self.len();
+        let request = sub.ask();
+        let answer = self.answer(&request.ask);
+        sub.take(&answer, u64::from(moment));
+        let own = self.parts.get(side);
+        self.add(Entry { request, answer });
+        self.parts.put(
+            side,
+            Own {
+                place: moment + 1,
+                ..own
+            },
+        );
+        Turn::Answered(moment)
+    }
+
+    /// The subsystem of a side that does not run is cut.
+    fn end_life(&mut self, side: Side, sub: &mut Subsystem) -> Turn
+        requires kept { IsKept self.old }
+        requires at { IsAt self.old.program (part_in self.old.parts side) self.old.log.entries sub.old }
+        ensures world { world_of self.new ≡ (acted (setup_of self.old) (world_of self.old) side Act.Dead).world }
+        ensures turn { result ≡ (acted (setup_of self.old) (world_of self.old) side Act.Dead).answer }
+        ensures setup { setup_of self.new ≡ setup_of self.old }
+        ensures kept { IsKept self.new }
+        ensures at { IsAt self.new.program (part_in self.new.parts side) self.new.log.entries sub.new }
+    {
+        sub.cut();
+        let own = self.parts.get(side);
+        self.parts.put(
+            side,
+            Own {
+                alive: false,
+                ..own
+            },
+        );
+        Turn::Dead
+    }
+
+    /// Does what was chosen.
+    pub fn act(&mut self, side: Side, act: Act, sub: &mut Subsystem) -> Turn
+        requires kept { IsKept self.old }
+        requires good { GoodLog (setup_of self.old) (log_of self.old) }
+        requires can { CanAct (setup_of self.old) (world_of self.old) side act }
+        requires at { IsAt self.old.program (part_in self.old.parts side) self.old.log.entries sub.old }
+        ensures world { world_of self.new ≡ (acted (setup_of self.old) (world_of self.old) side act).world }
+        ensures turn { result ≡ (acted (setup_of self.old) (world_of self.old) side act).answer }
+        // where one is to be appended, an entry comes next
+        ensures next { act ≡ Act.Append → is_some (next_entry (setup_of self.old) (log_of self.old)) ≡ true }
+        ensures setup { setup_of self.new ≡ setup_of self.old }
+        ensures kept { IsKept self.new }
+        ensures at { IsAt self.new.program (part_in self.new.parts side) self.new.log.entries sub.new }
+    {
+        match act {
+            Act::Over(ended) => {
+                let own = self.parts.get(side);
+                self.parts.put(side, Own { over: true, ..own });
+                Turn::Over(ended)
+            }
+            Act::Dead => self.end_life(side, sub),
+            Act::Take => self.take(side, sub),
+            Act::Show => self.show(side),
+            Act::Mark => {
+                self.marked = self.len();
+                Turn::Marked(self.len() - 1)
+            }
+            Act::Unmarked => Turn::NotYet(Reason::Unmarked(self.len() - 1)),
+            Act::Behind => Turn::NotYet(Reason::Behind(self.parts.get(other(side)).place)),
+            Act::Append => self.append(side, sub),
+        }
+    }
+}

@@ -1,0 +1,31 @@
+//! Laws of every pair: when a subsystem stands where the pair says, and who runs.
+ghost use Rattle.std.specs.Prelude.{List, true, ◌≡◌};
+ghost use Rattle.s7_base.specs.declared.entry.Entry.{Entry};
+ghost use Rattle.s7_base.specs.Blocks.{Program};
+ghost use Rattle.subsystem.specs.Part.{Part};
+ghost use Rattle.pair_core.specs.declared.own.Own.{Own};
+ghost use Rattle.s7_base.specs.declared.entry.Side.TheVariants.{A};
+ghost use Rattle.pair_core.specs.Sides.{runs};
+ghost use Rattle.pair_core.specs.World.{Setup, World, standing_in};
+ghost use Rattle.pair_core.specs.Good.{Good};
+ghost use Rattle.pair_core.specs.Places.{LoadedStands, NewStands, AskedStands};
+
+/// A subsystem that was loaded stands at the beginning of a record, and a new one for a side that does not run at
+/// first.
+#[tactic(auto, using(crate::proofs::Stands::loaded_stands, crate::proofs::Stands::new_stands))]
+pub fn begins()
+    ensures loaded { (program : Program) (s : Part) → LoadedStands program s }
+    ensures fresh { (program : Program) (s : Part) → NewStands program s }
+{}
+
+/// A subsystem that was asked stands where it stood, for whatever part and entries.
+#[tactic(auto, using(crate::proofs::Stands::asked_stands))]
+pub fn asking_stays()
+    ensures { (own : Own) (es : List Entry) (program : Program) (old new : Part) → AskedStands own es program old new }
+{}
+
+/// Side A runs to the end where it runs alone.
+#[tactic(auto, using(crate::proofs::Progress::alone_runs))]
+pub fn alone_runs()
+    ensures { (p : Setup) (w : World) → Good p w → p.solo ≡ true → runs (standing_in p w.log) A ≡ true }
+{}

@@ -1,0 +1,24 @@
+//! The redundant pair, played by visits: one side at a time comes, and takes or appends an entry, or shows or marks
+//! an output.
+#![tactic(auto)]
+
+mod acts;
+mod cuts;
+mod endings;
+mod laws;
+mod own;
+mod pair;
+mod showings;
+mod sides;
+mod standing;
+mod state;
+mod turns;
+
+pub use endings::{Ended, Mode, SystemState};
+pub use laws::{alone_runs, asking_stays, begins};
+pub use pair::Pair;
+pub use showings::Shown;
+pub use turns::{Reason, Turn};
+
+#[cfg(test)]
+mod tests;

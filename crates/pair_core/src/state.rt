@@ -1,0 +1,264 @@
+//! All that the pair keeps, and what a visit tests and does.
+ghost use Rattle.std.specs.Prelude.{◌≡◌, ◌+◌, ◌*◌, ◌<◌, ◌++◌, ◌∷◌, [], length, Some, nat_lt, if◌then◌else◌};
+ghost use Rattle.pair_core.specs.declared.turns.Act as Act;
+ghost use Rattle.mc_machine.specs.Stands.{IsAsked};
+ghost use Rattle.pair_core.specs.Cuts.{is_cut, is_late};
+ghost use Rattle.pair_core.specs.Stops.{stop_by, stop_of};
+ghost use Rattle.pair_core.specs.Showings.{is_output_of};
+ghost use Rattle.pair_core.specs.Endings.{ends_by_output};
+ghost use Rattle.pair_core.specs.Turns.{plain_answer, answer_at};
+ghost use Rattle.pair_core.specs.World.{part_in, is_open, is_pending, has_shown, is_down, is_left, is_behind, end_by, ended, must_wait, waits_for_other, choose, acted, standing_in, with_entry};
+ghost use Rattle.pair_core.specs.Kept.{setup_of, log_of, world_of, IsKept, IsImageBefore, CanAct};
+ghost use Rattle.pair_core.specs.Places.{IsAt};
+ghost use Rattle.pair_core.specs.Good.{GoodLog};
+
+use crate::cuts::Cuts;
+use crate::own::{Own, Parts};
+use crate::sides::{is_same, other};
+use crate::standing::Standing;
+use crate::turns::Act;
+use crate::{Ended, Reason, Shown, Turn};
+use event_record::Record;
+use plant_script::{InputImage, Script};
+use s7_base::{Answer, Ask, Blocks, Entry, Loss, Side, StopCode};
+use subsystem::Subsystem;
+
+/// All that the pair keeps: what it is made for, the record and the showings, one past the last output that is
+/// marked, what is kept of each side, and what follows from these: who runs, one past the last entry that each
+/// side showed, the input image, and what the script made of the sides.
+#[derive(Debug, Drop)]
+pub struct State {
+    pub program: Blocks,
+    pub script: Script,
+    pub solo: bool,
+    pub log: Record,
+    pub shown: Shown,
+    pub marked: u32,
+    pub parts: Parts,
+    pub standing: Standing,
+    pub shown_by_a: u32,
+    pub shown_by_b: u32,
+    pub image: InputImage,
+    pub cuts: Cuts,
+}
+
+/// The code with which an entry stops the CPU.
+fn stop_by(ask: &Ask, answer: &Answer) -> Option<StopCode>
+    ensures { result ≡ stop_by ask.now answer.now }
+{
+    match (ask, answer) {
+        (_, Answer::CpuStop(code)) => Some(*code),
+        (Ask::Stop(code), Answer::Done) => Some(*code),
+        _ => None,
+    }
+}
+
+/// Whether an entry is an output.
+fn is_output(ask: &Ask, answer: &Answer) -> bool
+    ensures { result ≡ is_output_of ask.now answer.now }
+{
+    matches!(
+        (ask, answer),
+        (Ask::Outputs(_) | Ask::WriteP { .. }, Answer::Done)
+    )
+}
+
+/// The answer to a request that nothing bars, at moment k.
+pub fn plain_answer(script: &Script, image: &mut InputImage, ask: &Ask, k: u32) -> Answer
+    requires asked { IsAsked ask.now }
+    requires before { IsImageBefore script.now k image.old }
+    ensures answer { plain_answer script.now k ask.now ≡ Some result }
+    ensures before { IsImageBefore script.now k image.new }
+{
+    match ask {
+        Ask::Inputs => {
+            image.advance(script, u64::from(k));
+            Answer::Image(image.bytes())
+        }
+        Ask::Cycle => Answer::Go,
+        Ask::Outputs(_) | Ask::Tick | Ask::Retrigger | Ask::Reply(_) | Ask::Stop(_) => Answer::Done,
+        Ask::Now => Answer::Now(u64::from(k)),
+        Ask::ReadP { .. } | Ask::WriteP { .. } => unreachable!(),
+    }
+}
+
+impl State {
+    /// The number of entries, which is the moment.
+    pub fn len(&self) -> u32
+        ensures { result ≡ length self.now.log.entries }
+    {
+        self.log.len()
+    }
+
+    /// The code with which the last entry stops the CPU.
+    #[tactic(auto, using(crate::proofs::Lasts::stop_last))]
+    pub fn stop(&self) -> Option<StopCode>
+        ensures { result ≡ stop_of self.now.log.entries }
+    {
+        match self.log.as_slice().last() {
+            Some(entry) => stop_by(&entry.request.ask, &entry.answer),
+            None => None,
+        }
+    }
+
+    /// Whether the last entry is an output.
+    #[tactic(auto, using(crate::proofs::Lasts::output_last))]
+    fn ends_by_output(&self) -> bool
+        ensures { result ≡ ends_by_output self.now.log.entries }
+    {
+        match self.log.as_slice().last() {
+            Some(entry) => is_output(&entry.request.ask, &entry.answer),
+            None => false,
+        }
+    }
+
+    /// Whether another entry may follow.
+    #[tactic(auto, unfolding(crate::specs::World::is_open))]
+    fn is_open(&self) -> bool
+        ensures { result ≡ is_open (setup_of self.now) (log_of self.now) }
+    {
+        self.len() < self.script.end() && self.stop().is_none()
+    }
+
+    /// Whether the last entry is an output that is not marked.
+    #[tactic(auto, unfolding(crate::specs::World::is_pending))]
+    pub fn is_pending(&self) -> bool
+        ensures { result ≡ is_pending (log_of self.now) }
+    {
+        self.ends_by_output() && self.marked < self.len()
+    }
+
+    /// Whether the side has shown the last entry.
+    #[tactic(auto, unfolding(crate::specs::World::has_shown))]
+    fn has_shown(&self, side: Side) -> bool
+        requires { IsKept self.now }
+        ensures { result ≡ has_shown (log_of self.now) side }
+    {
+        let past = match side {
+            Side::A => self.shown_by_a,
+            Side::B => self.shown_by_b,
+        };
+        past == self.len()
+    }
+
+    /// Whether the script stops the side now.
+    #[tactic(auto, unfolding(crate::specs::Cuts::is_cut))]
+    pub fn is_cut(&self, side: Side) -> bool
+        requires { IsKept self.now }
+        ensures { result ≡ is_cut self.now.script side (length self.now.log.entries) }
+    {
+        self.cuts.soundness_of(side).is_failed()
+    }
+
+    /// Whether the line that stops it says that it is late.
+    #[tactic(auto, unfolding(crate::specs::Cuts::is_late))]
+    fn is_late(&self, side: Side) -> bool
+        requires { IsKept self.now }
+        ensures { result ≡ is_late self.now.script side (length self.now.log.entries) }
+    {
+        self.cuts.soundness_of(side).is_failed_late()
+    }
+
+    /// Whether a visit finds the side cut: a late master first shows its last output.
+    #[tactic(auto, unfolding(crate::specs::World::is_down))]
+    pub fn is_down(&self, side: Side) -> bool
+        requires { IsKept self.now }
+        ensures { result ≡ is_down (setup_of self.now) (log_of self.now) side }
+    {
+        if !self.is_open() || !self.is_cut(side) {
+            return false;
+        }
+        let shows_first = self.is_late(side)
+            && is_same(side, self.standing.master)
+            && self.is_pending()
+            && !self.has_shown(side);
+        !shows_first
+    }
+
+    /// Whether the side runs and is not cut.
+    fn is_left(&self, side: Side) -> bool
+        requires { IsKept self.now }
+        ensures { result ≡ is_left (setup_of self.now) (log_of self.now) side }
+    {
+        self.standing.runs(side) && !self.is_down(side)
+    }
+
+    /// Whether the side has not taken all entries.
+    fn is_late_with_entries(&self, side: Side) -> bool
+        ensures { result ≡ nat_lt (part_in self.now.parts side).place (length self.now.log.entries) }
+    {
+        self.parts.get(side).place < self.len()
+    }
+
+    /// Whether the side runs and has not taken all entries.
+    fn is_behind(&self, side: Side) -> bool
+        requires { IsKept self.now }
+        ensures { result ≡ is_behind (setup_of self.now) (world_of self.now) side }
+    {
+        self.standing.runs(side) && self.is_late_with_entries(side)
+    }
+
+    /// How the run has ended, if it has.
+    #[tactic(auto, unfolding(crate::specs::World::ended))]
+    pub fn ended(&self) -> Option<Ended>
+        requires { IsKept self.now }
+        ensures { result ≡ ended (setup_of self.now) (world_of self.now) }
+    {
+        if self.is_open() {
+            return if self.is_left(Side::A) || self.is_left(Side::B) {
+                None
+            } else {
+                Some(Ended::NoneLeft)
+            };
+        }
+        if self.is_behind(Side::A) || self.is_behind(Side::B) {
+            return None;
+        }
+        match self.stop() {
+            Some(code) => Some(Ended::Stop(code)),
+            None if self.is_pending() => None,
+            None => Some(Ended::End),
+        }
+    }
+
+    /// What a visit does where the last output is not marked.
+    fn choose_output(&self, side: Side) -> Act
+        requires { IsKept self.now }
+        ensures { result ≡ (if must_wait (setup_of self.now) (log_of self.now) side then Act.Unmarked else (if has_shown (log_of self.now) side then Act.Mark else Act.Show)) }
+    {
+        let master = self.standing.master;
+        if !is_same(side, master) && !self.is_down(master) {
+            return Act::Unmarked;
+        }
+        if self.has_shown(side) {
+            Act::Mark
+        } else {
+            Act::Show
+        }
+    }
+
+    /// What a visit of the side does.
+    #[tactic(auto, unfolding(crate::specs::World::choose))]
+    pub fn choose(&self, side: Side) -> Act
+        requires { IsKept self.now }
+        ensures { result ≡ choose (setup_of self.now) (world_of self.now) side }
+    {
+        if let Some(ended) = self.ended() {
+            return Act::Over(ended);
+        }
+        if self.is_down(side) || !self.standing.runs(side) {
+            return Act::Dead;
+        }
+        if self.is_late_with_entries(side) {
+            return Act::Take;
+        }
+        if self.is_pending() {
+            return self.choose_output(side);
+        }
+        let second = other(side);
+        if self.is_left(second) && self.is_late_with_entries(second) {
+            return Act::Behind;
+        }
+        Act::Append
+    }
+}

@@ -1,0 +1,6 @@
+pub mod Digits
+pub mod EntryLaws
+pub mod Images
+pub mod Lists
+pub mod Notes
+pub mod Sections
