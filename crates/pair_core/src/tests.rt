@@ -121,7 +121,7 @@ const B: Side = Side::B;
 
 #[test]
 fn failures_at_every_moment_show_each_output_once_or_twice(rt: HostRuntime) -> Result<(), Fail> {
-    let patterns: [&[Side]; 8] = [
+    let patterns: [&[Side]; 10] = [
         &[A, B],
         &[B, A],
         &[A, B, B],
@@ -130,6 +130,8 @@ fn failures_at_every_moment_show_each_output_once_or_twice(rt: HostRuntime) -> R
         &[A, A, A, B],
         &[A, B, B, A],
         &[B, B, B, A, A, A],
+        &[A, A, A, A, A, A, A, A, B],
+        &[B, B, B, B, B, B, B, B, A],
     ];
     for (stops, late) in [(A, false), (A, true), (B, false), (B, true)] {
         for k in 0..END {
