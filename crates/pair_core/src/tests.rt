@@ -126,11 +126,12 @@ fn expected_entry(e: u32, stops: Side, k: u32) -> Entry {
 }
 
 fn is_expected(record: &Record, stops: Side, k: u32) -> bool {
-    record
-        .as_slice()
-        .iter()
-        .enumerate()
-        .all(|(e, entry)| *entry == expected_entry(e as u32, stops, k))
+    for e in 0..record.len() {
+        if *record.entry(e) != expected_entry(e, stops, k) {
+            return false;
+        }
+    }
+    true
 }
 
 const A: Side = Side::A;
