@@ -6,7 +6,7 @@ ghost use Rattle.pair_core.specs.Places.{IsAt};
 use super::*;
 use event_record::Record;
 use plant_script::read_script;
-use s7_base::{Answer, Blocks, CodeBlock, CodeKind, Side};
+use s7_base::{Answer, Ask, Blocks, CodeBlock, CodeKind, Entry, Loss, Request, Side};
 use std::alloc::Global;
 use std::test::Fail;
 use subsystem::Subsystem;
@@ -107,12 +107,31 @@ fn script_text(alloc: Global, stops: Side, k: u32, late: bool) -> Result<String,
     Ok(format!(in alloc; "AT {k} FAIL {side}{word}\nEND 9\n")?)
 }
 
-/// Whether the record has a loss of this side at entry k alone.
-fn is_lost_at(record: &Record, stops: Side, k: u32) -> bool {
-    record.as_slice().iter().enumerate().all(|(e, entry)| {
-        let is_loss = matches!(entry.answer, Answer::Lost { side, .. } if side == stops);
-        is_loss == (e == k as usize)
-    })
+/// Entry e, where this side is lost by entry k.
+fn expected_entry(e: u32, stops: Side, k: u32) -> Entry {
+    let asked = if e <= k { e } else { e - 1 };
+    let (ask, answer) = match asked % 3 {
+        0 => (Ask::Outputs([0; 64]), Answer::Done),
+        1 => (Ask::Inputs, Answer::Image([0; 64])),
+        _ => (Ask::Cycle, Answer::Go),
+    };
+    let lost = Answer::Lost {
+        side: stops,
+        why: Loss::Failed,
+    };
+    Entry {
+        request: Request { prio: 1, ask },
+        answer: if e == k { lost } else { answer },
+    }
+}
+
+fn is_expected(record: &Record, stops: Side, k: u32) -> bool {
+    for e in 0..record.len() {
+        if *record.entry(e) != expected_entry(e, stops, k) {
+            return false;
+        }
+    }
+    true
 }
 
 const A: Side = Side::A;
@@ -121,7 +140,7 @@ const B: Side = Side::B;
 
 #[test]
 fn failures_at_every_moment_show_each_output_once_or_twice(rt: HostRuntime) -> Result<(), Fail> {
-    let patterns: [&[Side]; 8] = [
+    let patterns: [&[Side]; 10] = [
         &[A, B],
         &[B, A],
         &[A, B, B],
@@ -130,6 +149,8 @@ fn failures_at_every_moment_show_each_output_once_or_twice(rt: HostRuntime) -> R
         &[A, A, A, B],
         &[A, B, B, A],
         &[B, B, B, A, A, A],
+        &[A, A, A, A, A, A, A, A, B],
+        &[B, B, B, B, B, B, B, B, A],
     ];
     for (stops, late) in [(A, false), (A, true), (B, false), (B, true)] {
         for k in 0..END {
@@ -138,7 +159,7 @@ fn failures_at_every_moment_show_each_output_once_or_twice(rt: HostRuntime) -> R
             for pattern in patterns {
                 let (record, list, ended) = run(rt.alloc(), text.as_bytes(), pattern)?;
                 assert_eq!(rt; record.len(), END);
-                assert!(rt; is_lost_at(&record, stops, k));
+                assert!(rt; is_expected(&record, stops, k));
                 assert!(rt; list.as_slice() == shown.as_slice());
                 assert!(rt; ended == Ended::End);
             }

@@ -1,7 +1,9 @@
--- The stored form of the bit statements: the table of the operations' numbers and of the areas, both ways.
+-- The stored form of the bit statements that are played: the numbers of their operations and areas, both ways.
 use Rattle.std.specs.Prelude.{ℕ, ◌≤◌, ◌==◌, ◌&&◌, nat_le, List, [], ◌∷◌, Option, Some, None, if◌then◌else◌}
 use Rattle.std.specs.List.{find}
 use Rattle.s7_base.specs.declared.statement.Statement.{Statement}
+use Rattle.s7_base.specs.declared.operation.BitLogic.{BitLogic}
+use Rattle.s7_base.specs.declared.operation.BitLogic.TheVariants as logic
 use Rattle.s7_base.specs.declared.instruction.BitOperation.{BitOperation}
 use Rattle.s7_base.specs.declared.instruction.BitOperation.TheVariants.{And, AndNot, Or, OrNot, Assign, Set, Reset}
 use Rattle.s7_base.specs.declared.instruction.BitArea.{BitArea}
@@ -19,6 +21,16 @@ operation_number OrNot = 3
 operation_number Assign = 14
 operation_number Set = 15
 operation_number Reset = 16
+
+-- an operation's place in the instruction set
+abbrev pub logic_of : BitOperation → BitLogic
+logic_of And = logic.And
+logic_of AndNot = logic.AndNot
+logic_of Or = logic.Or
+logic_of OrNot = logic.OrNot
+logic_of Assign = logic.Assign
+logic_of Set = logic.Set
+logic_of Reset = logic.Reset
 
 abbrev pub area_number : BitArea → ℕ
 area_number I = 1
@@ -61,7 +73,7 @@ abbrev pub ◌>>=◌ : {A B : Type 0} → Option A → (A → Option B) → Opti
 None >>= f = None
 (Some x) >>= f = f x
 
--- what a stored statement means, if it is one of the language: its numbers are in the tables, and its operand
+-- what a stored statement means, if it is one that is played: its numbers are in the tables, and its operand
 -- lies in its area
 abbrev pub instruction_of : Statement → Option Instruction
 instruction_of s = do

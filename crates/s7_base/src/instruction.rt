@@ -1,11 +1,12 @@
-//! What a stored statement means: instructions by groups.
-ghost use Rattle.std.specs.Prelude.{◌≡◌, ℕ, Some, IfSome, IsTrue};
-ghost use Rattle.s7_base.specs.Instruction.{operation_number, operation_of, area_number, area_of, last_byte, bit_statement, instruction_of, IsPlaced, HasOperand};
+//! What of the language is played: instructions by groups, and the stored statements that mean them.
+ghost use Rattle.std.specs.Prelude.{◌≡◌, ℕ, Some, IfSome, IsSomeAnd, IsTrue};
+ghost use Rattle.s7_base.specs.Instruction.{operation_number, logic_of, operation_of, area_number, area_of, last_byte, bit_statement, instruction_of, IsPlaced, HasOperand};
+ghost use Rattle.s7_base.specs.Rows.{row_of};
 ghost use Rattle.s7_base.specs.Statements.{is_statement};
 
-use crate::Statement;
+use crate::{Operation, Statement};
 
-/// What a bit statement does with its operand.
+/// What a bit statement that is played does with its operand.
 #[derive(Clone, Copy, Debug, PartialEq, Eq)]
 pub enum BitOperation {
     /// `A`
@@ -44,7 +45,7 @@ pub struct BitInstruction {
     pub bit: u8,
 }
 
-/// What a statement means.
+/// What a statement that is played means.
 #[derive(Clone, Copy, Debug, PartialEq, Eq)]
 pub enum Instruction {
     Bit(BitInstruction),
@@ -64,8 +65,11 @@ const AREAS: [BitArea; 3] = [BitArea::I, BitArea::Q, BitArea::M];
 
 impl BitOperation {
     /// The number of the operation in a stored statement.
+    #[tactic(auto, unfolding(crate::specs::Rows::row_of))]
     pub fn number(self) -> u16
-        ensures { result ≡ operation_number self }
+        ensures number { result ≡ operation_number self }
+        // in the instruction set it is the number of this operation
+        ensures row { IsSomeAnd (row_of result) (λ row. row.operation ≡ Operation.BitLogic (logic_of self)) }
     {
         match self {
             BitOperation::And => 0,
@@ -136,8 +140,8 @@ impl BitInstruction {
 }
 
 impl Statement {
-    /// What the statement means. None where it is no statement of the language: no operation or area has its
-    /// numbers, or the operand does not lie in the area.
+    /// What the statement means. None where it is none that is played: no played operation or area has its numbers,
+    /// or the operand does not lie in the area.
     pub fn instruction(&self) -> Option<Instruction>
         ensures meaning { result ≡ instruction_of self.now }
         ensures placed { IfSome result HasOperand }

@@ -3,4 +3,4 @@ use Rattle.s7_base.proofs.instruction.BitInstruction.statement.Goals as goal
 
 pub returns-clause-language : goal.returns-clause-language
 returns-clause-language c = λ placed locals.
-    rw (c.number.ensures, c.number-2.ensures, c.from.ensures) (bit_is_statement locals c.args.self placed)
+    rw (c.number.ensures.number, c.number-2.ensures, c.from.ensures) (bit_is_statement locals c.args.self placed)
