@@ -1,4 +1,4 @@
--- What a call of `solo` owes, from what it answers.
+-- What a call that plays owes, from what it answers.
 use Rattle.std.proofs.Common.{◌≡◌, ℕ, zero, suc, ◌<◌, List, length, Option, Some, None, refl, sym, ap, subst, arith}
 use Rattle.std.specs.Prelude.{IfSome}
 use Rattle.pair_io.specs.Causes.{Rose}
@@ -11,7 +11,8 @@ use Rattle.plant_script.specs.Plan.{Plan}
 use Rattle.pair_top.specs.SourceText.{IsSource}
 use Rattle.plant_script.specs.ScriptText.{IsScript}
 use Rattle.pair_top.specs.Reading.{File, WasRead, IsTooLong, IsAccepted, IsPlanned, IsNoSource, IsNoScript, HasFailed, source_not_built, script_not_built}
-use Rattle.pair_top.specs.Serving.{Written, Account, SoloServed, IsDue, IsDone, Tells, TellsTooMuch, TellsSource, TellsNoSource, TellsScript, TellsNoScript, GivesWhatIsDue}
+use Rattle.pair_top.specs.Orders.{Manner}
+use Rattle.pair_top.specs.Serving.{Written, Account, PlayServed, IsDue, IsDone, Tells, TellsTooMuch, TellsSource, TellsNoSource, TellsScript, TellsNoScript, GivesWhatIsDue}
 
 -- what was read of a file that tells its content is that content
 same_bytes : (content : Option (List ℕ)) (bytes told : List ℕ) → content ≡ Some told → WasRead content bytes → bytes ≡ told
@@ -55,10 +56,10 @@ script_stands file tells bad =
     let same = same_bytes file.content bad.bytes tells.bytes tells.tells.told bad.read in
     bad.none tells.plan (subst (λ l. IsScript l tells.plan) (sym same) tells.script)
 
-module _ (source script : File) (sink : Written) (account : Account) (a b : Part) where
-  long_source : TellsTooMuch source → (fault : Option Fault) → SoloServed source script sink account a b fault → IsDue 0 (TooLong 0) fault
-  long_source much None s = accepts_no_long source s.0.program much s.0.accepted
-  long_source much (Some SinkFault) s = absurd (accepts_no_long source s.0.program much s.0.accepted)
+module _ (manner : Manner) (source script : File) (sink : Written) (account : Account) (a b : Part) where
+  long_source : TellsTooMuch source → (fault : Option Fault) → PlayServed manner source script sink account a b fault → IsDue 0 (TooLong 0) fault
+  long_source much None s = accepts_no_long source s.0 much s.2.accepted
+  long_source much (Some SinkFault) s = absurd (accepts_no_long source s.0 much s.2.accepted)
   long_source much (Some NoMemory) s = tt
   long_source much (Some (FileFault zero)) s = omega arith
   long_source much (Some (FileFault (suc zero))) s = absurd (accepts_no_long source s.0.0 much s.0.1)
@@ -71,9 +72,9 @@ module _ (source script : File) (sink : Written) (account : Account) (a b : Part
   long_source much (Some Usage) s = absurd s.0
   long_source much (Some (Differs line)) s = absurd s.0
 
-  no_source : TellsNoSource source → (fault : Option Fault) → SoloServed source script sink account a b fault → IsDue 0 (SourceFault source_not_built) fault
-  no_source bad None s = accepts_a_source source s.0.program bad s.0.accepted
-  no_source bad (Some SinkFault) s = absurd (accepts_a_source source s.0.program bad s.0.accepted)
+  no_source : TellsNoSource source → (fault : Option Fault) → PlayServed manner source script sink account a b fault → IsDue 0 (SourceFault source_not_built) fault
+  no_source bad None s = accepts_a_source source s.0 bad s.2.accepted
+  no_source bad (Some SinkFault) s = absurd (accepts_a_source source s.0 bad s.2.accepted)
   no_source bad (Some NoMemory) s = tt
   no_source bad (Some (FileFault zero)) s = omega arith
   no_source bad (Some (FileFault (suc zero))) s = absurd (accepts_a_source source s.0.0 bad s.0.1)
@@ -86,9 +87,9 @@ module _ (source script : File) (sink : Written) (account : Account) (a b : Part
   no_source bad (Some Usage) s = absurd s.0
   no_source bad (Some (Differs line)) s = absurd s.0
 
-  long_script : TellsSource source → TellsTooMuch script → (fault : Option Fault) → SoloServed source script sink account a b fault → IsDue 1 (TooLong 1) fault
-  long_script is much None s = plans_no_long script s.0.plan much s.0.planned
-  long_script is much (Some SinkFault) s = absurd (plans_no_long script s.0.plan much s.0.planned)
+  long_script : TellsSource source → TellsTooMuch script → (fault : Option Fault) → PlayServed manner source script sink account a b fault → IsDue 1 (TooLong 1) fault
+  long_script is much None s = plans_no_long script s.1 much s.2.planned
+  long_script is much (Some SinkFault) s = absurd (plans_no_long script s.1 much s.2.planned)
   long_script is much (Some NoMemory) s = tt
   long_script is much (Some (FileFault zero)) s = omega arith
   long_script is much (Some (FileFault (suc zero))) s = omega arith
@@ -101,9 +102,9 @@ module _ (source script : File) (sink : Written) (account : Account) (a b : Part
   long_script is much (Some Usage) s = absurd s.0
   long_script is much (Some (Differs line)) s = absurd s.0
 
-  no_script : TellsSource source → TellsNoScript script → (fault : Option Fault) → SoloServed source script sink account a b fault → IsDue 1 (ScriptFault script_not_built) fault
-  no_script is bad None s = plans_a_script script s.0.plan bad s.0.planned
-  no_script is bad (Some SinkFault) s = absurd (plans_a_script script s.0.plan bad s.0.planned)
+  no_script : TellsSource source → TellsNoScript script → (fault : Option Fault) → PlayServed manner source script sink account a b fault → IsDue 1 (ScriptFault script_not_built) fault
+  no_script is bad None s = plans_a_script script s.1 bad s.2.planned
+  no_script is bad (Some SinkFault) s = absurd (plans_a_script script s.1 bad s.2.planned)
   no_script is bad (Some NoMemory) s = tt
   no_script is bad (Some (FileFault zero)) s = omega arith
   no_script is bad (Some (FileFault (suc zero))) s = omega arith
@@ -117,9 +118,9 @@ module _ (source script : File) (sink : Written) (account : Account) (a b : Part
   no_script is bad (Some (Differs line)) s = absurd s.0
 
   complete : TellsSource source → TellsScript script → (HasFailed source → ⊥) → (HasFailed script → ⊥) → (Rose sink.before sink.now → ⊥)
-      → (fault : Option Fault) → SoloServed source script sink account a b fault → IsDone fault
+      → (fault : Option Fault) → PlayServed manner source script sink account a b fault → IsDone fault
   complete is plan source_reads script_reads takes None s = tt
-  complete is plan source_reads script_reads takes (Some SinkFault) s = takes s.2
+  complete is plan source_reads script_reads takes (Some SinkFault) s = takes s.3.3.1
   complete is plan source_reads script_reads takes (Some NoMemory) s = tt
   complete is plan source_reads script_reads takes (Some (FileFault zero)) s = source_reads s.0
   complete is plan source_reads script_reads takes (Some (FileFault (suc zero))) s = script_reads s.0.2
@@ -132,7 +133,7 @@ module _ (source script : File) (sink : Written) (account : Account) (a b : Part
   complete is plan source_reads script_reads takes (Some Usage) s = s.0
   complete is plan source_reads script_reads takes (Some (Differs line)) s = s.0
 
-  pub gives_what_is_due : (fault : Option Fault) → SoloServed source script sink account a b fault → GivesWhatIsDue source script sink fault
+  pub gives_what_is_due : (fault : Option Fault) → PlayServed manner source script sink account a b fault → GivesWhatIsDue source script sink fault
   gives_what_is_due fault s = record {
     long_source = λ much. long_source much fault s;
     no_source = λ bad. no_source bad fault s;

@@ -1,7 +1,9 @@
 pub mod Due
 pub mod Numbers
+pub mod Patterns
 pub mod Pieces
 pub mod PlayedOut
+pub mod Plays
 pub mod Serves
 pub mod SourceBlocks
 pub mod SourceLaws

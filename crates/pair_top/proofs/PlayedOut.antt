@@ -1,4 +1,4 @@
--- A play of side A alone that has come to its end.
+-- A play that has come to its end.
 use Rattle.std.proofs.Common.{◌≡◌, Bool, true, false, refl, List, Option, Some, None, ap, ◌∙◌, sym, subst, inl, inr}
 use Rattle.std.specs.Prelude.{◌&&◌, not}
 use Rattle.s7_base.specs.declared.entry.Request.{Request}
@@ -13,7 +13,7 @@ use Rattle.pair_core.specs.CpuTail.{noted, tail_of, tail_of_state}
 use Rattle.pair_core.specs.World.{first_part}
 use Rattle.pair_core.specs.Places.{StandsAfter, IsAt, AskedStands}
 use Rattle.pair_core.specs.Played.{answers_of}
-use Rattle.pair_top.specs.Serving.{ComesTo}
+use Rattle.pair_top.specs.Playing.{ComesTo, IsBrought}
 
 -- what a machine shows of a state is the tail of the state
 same_tail : (running : Running) (state : State) → Shows running state → tail_of (Some running) ≡ tail_of_state state
@@ -33,11 +33,6 @@ pub runs_standing : (program : Program) (given : List Answer) (machine : Option 
 runs_standing program given None stands = absurd stands
 runs_standing program given (Some running) stands = cc
 
-pub has_ended : (solo over : Bool) → over ≡ true → (solo && not over) ≡ false
-has_ended false over h = refl
-has_ended true true h = refl
-has_ended true false h = absurd cc
-
 -- a machine that can be asked is one of a life that is open
 alive_by : (alive : Bool) (machine : Option Running) → CanAsk machine → (alive ≡ false → machine ≡ None) → alive ≡ true
 alive_by true machine can idle = cc
@@ -45,16 +40,6 @@ alive_by false machine can idle = absurd (subst CanAsk (idle cc) can)
 
 pub alive_asked : (program : Program) (own : Own) (es : List Entry) (s : Part) → CanAsk s.machine → IsAt program own es s → own.alive ≡ true
 alive_asked program own es s can at_own = alive_by own.alive s.machine can at_own.idle
-
--- a new side stands for one that does not run, at whatever entry
-pub new_stands : (program : Program) (own : Own) (es : List Entry) (s : Part) → own ≡ first_part false → IsNew s → IsAt program own es s
-new_stands program own es s is new =
-    subst (λ o. IsAt program o es s) (sym is) (record { lives = new.lives; idle = λ dead. new.machine; machine = λ alive. absurd cc })
-
--- What asking made of a side: it stands where it stood, and where it had taken all entries it shows the CPU at its end.
-pub record IsBrought (program : Program) (own : Own) (es : List Entry) (old new : Part) : Type 0 where
-  pub stays : IsAt program own es new
-  pub last : StandsAfter program es old.machine → ComesTo program (answers_of es) (tail_of new.machine) × IsRunning new.machine
 
 pub asked_brought : (program : Program) (own : Own) (es : List Entry) (old new : Part) (request : Request) → IsAt program own es old → CanAsk old.machine
     → new.lives ≡ old.lives → CanAsk new.machine → ((given : List Answer) → Stands program given old.machine → Stands program given new.machine)

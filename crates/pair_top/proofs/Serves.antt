@@ -1,26 +1,25 @@
--- What a call of `solo` answers, from what its play answers.
-use Rattle.std.proofs.Common.{Option, Some, None}
+-- What a call that plays answers, from what its play answers.
+use Rattle.std.proofs.Common.{◌≡◌, Bool, Option, Some, None, subst}
+use Rattle.s7_base.specs.declared.entry.Side.{Side}
 use Rattle.s7_base.specs.Blocks.{Program}
 use Rattle.pair_top.specs.declared.faults.Fault.{Fault}
 use Rattle.pair_top.specs.declared.faults.Fault.TheVariants.{Usage, FileFault, TooLong, SourceFault, ScriptFault, SinkFault, NoMemory, Differs}
-use Rattle.subsystem.specs.Part.{Part, IsNew}
+use Rattle.subsystem.specs.Part.{Part}
 use Rattle.plant_script.specs.Plan.{Plan}
-use Rattle.pair_top.specs.Reading.{File, IsAccepted, IsPlanned}
-use Rattle.pair_top.specs.Serving.{Written, Account, IsQuiet, IsSoloRefusal, IsSoloOutcome, SoloServed}
+use Rattle.pair_core.specs.Tail.{Tail}
+use Rattle.pair_core.specs.CpuTail.{tail_of}
+use Rattle.pair_core.specs.Text.{HasTail}
+use Rattle.pair_core.specs.World.{Setup, World, first_world, play}
+use Rattle.pair_top.specs.Reading.{File}
+use Rattle.pair_top.specs.Orders.{Manner, is_alone, visits_for}
+use Rattle.pair_top.specs.Playing.{of_side}
+use Rattle.pair_top.specs.Serving.{Written, Account, AreAccepted, IsQuiet, IsRefusal, IsFinished, IsPlay, setup_of, ComesToTail, IsTailOf, IsWriting, play_text, IsOutcome, PlayServed}
 
-module _ (source script : File) (sink : Written) (account : Account) (a b : Part) (program : Program) (plan : Plan)
-    (accepted : IsAccepted source.content program) (planned : IsPlanned script.content plan) (new : IsNew b) where
-  pub served : (fault : Option Fault) → IsSoloOutcome program plan sink account a fault → SoloServed source script sink account a b fault
-  served None o = (
-    record { program = program; plan = plan; accepted = accepted; planned = planned; alone = o.0; other = o.0.other b new },
-    o.1,
-    o.2,
-  )
-  served (Some SinkFault) o = (
-    record { program = program; plan = plan; accepted = accepted; planned = planned; alone = o.0; other = o.0.other b new },
-    o.1,
-    o.2,
-  )
+module _ (manner : Manner) (source script : File) (sink : Written) (account : Account) (a b : Part) (program : Program) (plan : Plan)
+    (accepted : AreAccepted source.content script.content program plan) where
+  pub served : (fault : Option Fault) → IsOutcome manner program plan sink account a b fault → PlayServed manner source script sink account a b fault
+  served None o = (program, plan, accepted, o)
+  served (Some SinkFault) o = (program, plan, accepted, o)
   served (Some NoMemory) o = (tt, o)
   served (Some Usage) o = absurd o
   served (Some (FileFault which)) o = absurd o
@@ -30,13 +29,43 @@ module _ (source script : File) (sink : Written) (account : Account) (a b : Part
   served (Some (Differs line)) o = absurd o
 
 -- a refusal with which nothing was played and nothing written
-pub refused : (source script : File) (sink : Written) (account : Account) (a b : Part) (fault : Fault)
-    → IsSoloRefusal source script fault → IsQuiet sink account → SoloServed source script sink account a b (Some fault)
-refused source script sink account a b Usage r quiet = absurd r
-refused source script sink account a b (FileFault which) r quiet = (r, quiet)
-refused source script sink account a b (TooLong which) r quiet = (r, quiet)
-refused source script sink account a b (SourceFault fault) r quiet = (r, quiet)
-refused source script sink account a b (ScriptFault fault) r quiet = (r, quiet)
-refused source script sink account a b SinkFault r quiet = absurd r
-refused source script sink account a b NoMemory r quiet = (r, quiet)
-refused source script sink account a b (Differs line) r quiet = absurd r
+pub refused : (manner : Manner) (source script : File) (sink : Written) (account : Account) (a b : Part) (fault : Fault)
+    → IsRefusal source script fault → IsQuiet sink account → PlayServed manner source script sink account a b (Some fault)
+refused manner source script sink account a b Usage r quiet = absurd r
+refused manner source script sink account a b (FileFault which) r quiet = (r, quiet)
+refused manner source script sink account a b (TooLong which) r quiet = (r, quiet)
+refused manner source script sink account a b (SourceFault fault) r quiet = (r, quiet)
+refused manner source script sink account a b (ScriptFault fault) r quiet = (r, quiet)
+refused manner source script sink account a b SinkFault r quiet = absurd r
+refused manner source script sink account a b NoMemory r quiet = (r, quiet)
+refused manner source script sink account a b (Differs line) r quiet = absurd r
+
+-- a play whose text was written, or a front of it
+pub outcome : (manner : Manner) (program : Program) (plan : Plan) (sink : Written) (account : Account) (a b : Part) (tail : Tail) (fault : Option Fault)
+    → IsPlay manner program plan account a b → IsTailOf program account tail → IsWriting (play_text manner account tail) sink fault
+    → IsOutcome manner program plan sink account a b fault
+outcome manner program plan sink account a b tail None played shows wrote = (played, tail, shows, wrote)
+outcome manner program plan sink account a b tail (Some SinkFault) played shows wrote = (played, tail, shows, wrote)
+outcome manner program plan sink account a b tail (Some NoMemory) played shows wrote = absurd wrote
+outcome manner program plan sink account a b tail (Some Usage) played shows wrote = absurd wrote
+outcome manner program plan sink account a b tail (Some (FileFault which)) played shows wrote = absurd wrote
+outcome manner program plan sink account a b tail (Some (TooLong which)) played shows wrote = absurd wrote
+outcome manner program plan sink account a b tail (Some (SourceFault fault)) played shows wrote = absurd wrote
+outcome manner program plan sink account a b tail (Some (ScriptFault fault)) played shows wrote = absurd wrote
+outcome manner program plan sink account a b tail (Some (Differs line)) played shows wrote = absurd wrote
+
+-- what was finished in the world of the ordered visits is a play
+pub is_play : (manner : Manner) (program : Program) (plan : Plan) (solo : Bool) (p : Setup) (w : World) (account : Account) (a b : Part)
+    → solo ≡ is_alone manner → p ≡ setup_of program plan solo → w ≡ first_world solo
+    → IsFinished p (play p w (visits_for manner p.plan)) account a b → IsPlay manner program plan account a b
+is_play manner program plan solo p w account a b alone is world finished =
+    let there = subst (λ (q : Setup). IsFinished q (play q w (visits_for manner q.plan)) account a b) is finished in
+    let first = subst (λ (v : World). IsFinished (setup_of program plan solo) (play (setup_of program plan solo) v (visits_for manner plan)) account a b) world there in
+    subst (λ (s : Bool). IsFinished (setup_of program plan s) (play (setup_of program plan s) (first_world s) (visits_for manner plan)) account a b) alone first
+
+-- the tail of the side that was brought to its next request
+pub is_tail : (program : Program) (plan : Plan) (solo : Bool) (p : Setup) (account : Account) (last side : Side) (a b : Part) → p ≡ setup_of program plan solo → last ≡ side
+    → (HasTail account.ended → ComesToTail p.program account.entries (of_side last a b)) → IsTailOf program account (tail_of (of_side side a b).machine)
+is_tail program plan solo p account last side a b is same shows tail =
+    let there = subst (λ (q : Setup). ComesToTail q.program account.entries (of_side last a b)) is (shows tail) in
+    (subst (λ (s : Side). ComesToTail program account.entries (of_side s a b)) same there).0

@@ -1,4 +1,8 @@
 pub mod Fields
+pub mod Orders
+pub mod Pattern
+pub mod PatternView
+pub mod Playing
 pub mod Reading
 pub mod Serving
 pub mod SourceReading

@@ -1,38 +1,31 @@
 -- What a call of the program answers and leaves.
-use Rattle.std.specs.Prelude.{◌≡◌, ◌⊎◌, ℕ, zero, suc, ◌≤◌, ◌<◌, true, List, [], length, Option, Some, None}
+use Rattle.std.specs.Prelude.{◌≡◌, ℕ, zero, suc, ◌≤◌, ◌<◌, Bool, true, List, [], length, Option, Some, None}
 use Rattle.std.specs.Io.KnownBytes.{Appends}
 use Rattle.pair_io.specs.Bytes.{AppendsFront}
 use Rattle.pair_io.specs.Causes.{Rose}
 use Rattle.s7_base.specs.declared.entry.Side.{Side}
 use Rattle.s7_base.specs.declared.entry.Side.TheVariants.{A, B}
-use Rattle.s7_base.specs.declared.entry.Request.{Request}
-use Rattle.s7_base.specs.declared.entry.Answer.{Answer}
 use Rattle.s7_base.specs.declared.entry.Entry.{Entry}
 use Rattle.s7_base.specs.Blocks.{Program}
-use Rattle.mc_machine.specs.Meaning.{State, Waits, Stopped, std}
 use Rattle.pair_core.specs.declared.endings.Ended.{Ended}
 use Rattle.pair_core.specs.declared.endings.Ended.TheVariants.{NotPlayed}
-use Rattle.pair_core.specs.declared.endings.Mode.TheVariants.{Solo}
 use Rattle.pair_top.specs.declared.faults.Fault.{Fault}
 use Rattle.pair_top.specs.declared.faults.Fault.TheVariants.{Usage, FileFault, TooLong, SourceFault, ScriptFault, SinkFault, NoMemory, Differs}
 use Rattle.pair_top.specs.declared.reading.TheConstants.{LIMIT}
 use Rattle.plant_script.specs.Plan.{Plan}
-use Rattle.subsystem.specs.Part.{Part, IsNew}
+use Rattle.subsystem.specs.Part.{Part, IsOpen}
 use Rattle.pair_core.specs.Played.{IsRun, IsSideOf, answers_of}
+use Rattle.pair_core.specs.World.{Setup, World, first_world, play}
+use Rattle.pair_core.specs.Finished.{ended_by}
 use Rattle.pair_top.specs.Reading.{File, IsSteady, HasFailed, IsTooLong, IsAccepted, IsPlanned, IsNoSource, IsNoScript, IsSourceOf, source_not_built, script_not_built}
 use Rattle.s7_base.specs.declared.instruction.BitInstruction.{BitInstruction}
 use Rattle.pair_top.specs.SourceText.{IsSource}
 use Rattle.plant_script.specs.ScriptText.{IsScript}
-use Rattle.pair_core.specs.CpuTail.{tail_of, tail_of_state}
+use Rattle.pair_core.specs.CpuTail.{tail_of}
 use Rattle.pair_core.specs.Tail.{Tail}
 use Rattle.pair_core.specs.Text.{HasTail, text}
-use Rattle.pair_top.specs.Words.{Order, solo}
-
--- with these answers the CPU comes to a state that this tail shows: it waits there at its next request, or has stopped there
-abbrev pub ComesTo : Program → List Answer → Tail → Type 0
-ComesTo program given tail =
-    (state : State) × (((request : Request) × (std program given ≡ Waits request state)) ⊎ (std program given ≡ Stopped state))
-    × (tail ≡ tail_of_state state)
+use Rattle.pair_top.specs.Orders.{Manner, is_alone, visits_for, mode_for, Order, source_of, script_of, manner_of}
+use Rattle.pair_top.specs.Playing.{ComesTo}
 
 -- a call --
 
@@ -55,26 +48,42 @@ pub record Account : Type 0 where
 abbrev pub account_of : List Entry → List (ℕ × Side) → Ended → Account
 account_of entries shown ended = record { entries = entries; shown = shown; ended = ended }
 
--- A play of a program and a plan by side A alone. Where its text has a tail, A's machine shows the CPU at its end. Side B has
--- no part in it.
-pub record IsAlonePlay (program : Program) (plan : Plan) (account : Account) (a : Part) : Type 0 where
-  pub run : IsRun program plan true account.entries account.shown account.ended
-  pub side : IsSideOf program plan true account.entries account.ended A a
-  pub last : HasTail account.ended → ComesTo program (answers_of account.entries) (tail_of a.machine)
-  pub other : (b : Part) → IsNew b → IsSideOf program plan true account.entries account.ended B b
+-- what a pair is made for
+abbrev pub setup_of : Program → Plan → Bool → Setup
+setup_of program plan solo = record { program = program; plan = plan; solo = solo }
 
--- its text
-abbrev pub solo_text : Account → Part → List ℕ
-solo_text account a = text Solo account.entries account.shown account.ended (tail_of a.machine)
+-- what is told of a world that visits came to
+abbrev pub account_in : Setup → World → Account
+account_in p w = account_of w.log.entries w.log.shown (ended_by p w)
 
--- Both files were read whole and accepted, and this is a play of them by side A alone.
-pub record IsSoloPlay (source script : Option (List ℕ)) (account : Account) (a b : Part) : Type 0 where
-  pub program : Program
-  pub plan : Plan
+-- a play that ended in a world: its record is the standard CPU's and lawful, and the rest follows from it
+pub record IsFinished (p : Setup) (w : World) (account : Account) (a b : Part) : Type 0 where
+  pub visited : account ≡ account_in p w
+  pub run : IsRun p.program p.plan p.solo account.entries account.shown account.ended
+  pub first : IsSideOf p.program p.plan p.solo account.entries account.ended A a
+  pub second : IsSideOf p.program p.plan p.solo account.entries account.ended B b
+
+-- a play of a program and a plan: the world is that of the visits which were ordered
+abbrev pub IsPlay : Manner → Program → Plan → Account → Part → Part → Type 0
+IsPlay manner program plan account a b =
+    IsFinished (setup_of program plan (is_alone manner))
+    (play (setup_of program plan (is_alone manner)) (first_world (is_alone manner)) (visits_for manner plan)) account a b
+
+-- a subsystem is open, and shows the CPU after this record
+abbrev pub ComesToTail : Program → List Entry → Part → Type 0
+ComesToTail program entries part = ComesTo program (answers_of entries) (tail_of part.machine) × IsOpen part
+
+-- where the text has a tail it shows the CPU after this record
+abbrev pub IsTailOf : Program → Account → Tail → Type 0
+IsTailOf program account tail = HasTail account.ended → ComesTo program (answers_of account.entries) tail
+
+abbrev pub play_text : Manner → Account → Tail → List ℕ
+play_text manner account tail = text (mode_for manner) account.entries account.shown account.ended tail
+
+-- both files were read whole and accepted
+pub record AreAccepted (source script : Option (List ℕ)) (program : Program) (plan : Plan) : Type 0 where
   pub accepted : IsAccepted source program
   pub planned : IsPlanned script plan
-  pub alone : IsAlonePlay program plan account a
-  pub other : IsSideOf program plan true account.entries account.ended B b
 
 -- nothing was played and nothing written
 pub record IsQuiet (sink : Written) (account : Account) : Type 0 where
@@ -84,55 +93,68 @@ pub record IsQuiet (sink : Written) (account : Account) : Type 0 where
   pub bytes : sink.new ≡ sink.old
   pub faults : sink.now ≡ sink.before
 
--- why a call of `solo` was refused, and that the files before the refused one were read whole and accepted
-abbrev pub IsSoloRefusal : File → File → Fault → Type 0
-IsSoloRefusal source script (FileFault zero) = HasFailed source
-IsSoloRefusal source script (FileFault (suc zero)) = (program : Program) × IsAccepted source.content program × HasFailed script
-IsSoloRefusal source script (FileFault (suc (suc n))) = ⊥
-IsSoloRefusal source script (TooLong zero) = IsTooLong source.content
-IsSoloRefusal source script (TooLong (suc zero)) = (program : Program) × IsAccepted source.content program × IsTooLong script.content
-IsSoloRefusal source script (TooLong (suc (suc n))) = ⊥
-IsSoloRefusal source script (SourceFault fault) = (fault ≡ source_not_built) × IsNoSource source.content
-IsSoloRefusal source script (ScriptFault fault) = (fault ≡ script_not_built) × (program : Program) × IsAccepted source.content program × IsNoScript script.content
-IsSoloRefusal source script NoMemory = Unit {0}
-IsSoloRefusal source script Usage = ⊥
-IsSoloRefusal source script SinkFault = ⊥
-IsSoloRefusal source script (Differs line) = ⊥
+-- why a play was refused, and that the files before the refused one were read whole and accepted
+abbrev pub IsRefusal : File → File → Fault → Type 0
+IsRefusal source script (FileFault zero) = HasFailed source
+IsRefusal source script (FileFault (suc zero)) = (program : Program) × IsAccepted source.content program × HasFailed script
+IsRefusal source script (FileFault (suc (suc n))) = ⊥
+IsRefusal source script (TooLong zero) = IsTooLong source.content
+IsRefusal source script (TooLong (suc zero)) = (program : Program) × IsAccepted source.content program × IsTooLong script.content
+IsRefusal source script (TooLong (suc (suc n))) = ⊥
+IsRefusal source script (SourceFault fault) = (fault ≡ source_not_built) × IsNoSource source.content
+IsRefusal source script (ScriptFault fault) = (fault ≡ script_not_built) × (program : Program) × IsAccepted source.content program × IsNoScript script.content
+IsRefusal source script NoMemory = Unit {0}
+IsRefusal source script Usage = ⊥
+IsRefusal source script SinkFault = ⊥
+IsRefusal source script (Differs line) = ⊥
 
 -- the counts of the files are as before, but where a file failed
 abbrev pub AreSteady : Option Fault → File → File → Type 0
 AreSteady (Some (FileFault which)) source script = Unit {0}
 AreSteady fault source script = IsSteady source × IsSteady script
 
+-- The text was written; or the sink counted a fault, and took a front of it.
+abbrev pub IsWriting : List ℕ → Written → Option Fault → Type 0
+IsWriting bytes sink None = Appends sink.old sink.new bytes × (sink.now ≡ sink.before)
+IsWriting bytes sink (Some SinkFault) = AppendsFront sink.old sink.new bytes × Rose sink.before sink.now
+IsWriting bytes sink (Some fault) = ⊥
+
+-- a play was made, and its text was written
+abbrev pub IsPlayed : Manner → Program → Plan → Written → Account → Part → Part → Option Fault → Type 0
+IsPlayed manner program plan sink account a b fault =
+    IsPlay manner program plan account a b × (tail : Tail) × IsTailOf program account tail × IsWriting (play_text manner account tail) sink fault
+
 -- What a play of an accepted source and script answers and leaves. Done, or with a fault of the sink: the play, and its
 -- text or a front of it. Without memory: nothing played and nothing written.
-abbrev pub IsSoloOutcome : Program → Plan → Written → Account → Part → Option Fault → Type 0
-IsSoloOutcome program plan sink account a None =
-    IsAlonePlay program plan account a × Appends sink.old sink.new (solo_text account a) × (sink.now ≡ sink.before)
-IsSoloOutcome program plan sink account a (Some SinkFault) =
-    IsAlonePlay program plan account a × AppendsFront sink.old sink.new (solo_text account a) × Rose sink.before sink.now
-IsSoloOutcome program plan sink account a (Some NoMemory) = IsQuiet sink account
-IsSoloOutcome program plan sink account a (Some Usage) = ⊥
-IsSoloOutcome program plan sink account a (Some (FileFault which)) = ⊥
-IsSoloOutcome program plan sink account a (Some (TooLong which)) = ⊥
-IsSoloOutcome program plan sink account a (Some (SourceFault fault)) = ⊥
-IsSoloOutcome program plan sink account a (Some (ScriptFault fault)) = ⊥
-IsSoloOutcome program plan sink account a (Some (Differs line)) = ⊥
+abbrev pub IsOutcome : Manner → Program → Plan → Written → Account → Part → Part → Option Fault → Type 0
+IsOutcome manner program plan sink account a b None = IsPlayed manner program plan sink account a b None
+IsOutcome manner program plan sink account a b (Some SinkFault) = IsPlayed manner program plan sink account a b (Some SinkFault)
+IsOutcome manner program plan sink account a b (Some NoMemory) = IsQuiet sink account
+IsOutcome manner program plan sink account a b (Some Usage) = ⊥
+IsOutcome manner program plan sink account a b (Some (FileFault which)) = ⊥
+IsOutcome manner program plan sink account a b (Some (TooLong which)) = ⊥
+IsOutcome manner program plan sink account a b (Some (SourceFault fault)) = ⊥
+IsOutcome manner program plan sink account a b (Some (ScriptFault fault)) = ⊥
+IsOutcome manner program plan sink account a b (Some (Differs line)) = ⊥
 
--- What a call of `solo` answers and leaves. With every fault but one of the sink: its cause, and nothing played and nothing
+-- both files were read whole and accepted, and this is a play of them
+abbrev pub IsPlayOf : Manner → File → File → Written → Account → Part → Part → Option Fault → Type 0
+IsPlayOf manner source script sink account a b fault =
+    (program : Program) × (plan : Plan) × AreAccepted source.content script.content program plan × IsPlayed manner program plan sink account a b fault
+
+-- What a call that plays answers and leaves. With every fault but one of the sink: its cause, and nothing played and nothing
 -- written.
-abbrev pub SoloServed : File → File → Written → Account → Part → Part → Option Fault → Type 0
-SoloServed source script sink account a b None =
-    IsSoloPlay source.content script.content account a b × Appends sink.old sink.new (solo_text account a) × (sink.now ≡ sink.before)
-SoloServed source script sink account a b (Some SinkFault) =
-    IsSoloPlay source.content script.content account a b × AppendsFront sink.old sink.new (solo_text account a) × Rose sink.before sink.now
-SoloServed source script sink account a b (Some fault) = IsSoloRefusal source script fault × IsQuiet sink account
+abbrev pub PlayServed : Manner → File → File → Written → Account → Part → Part → Option Fault → Type 0
+PlayServed manner source script sink account a b None = IsPlayOf manner source script sink account a b None
+PlayServed manner source script sink account a b (Some SinkFault) = IsPlayOf manner source script sink account a b (Some SinkFault)
+PlayServed manner source script sink account a b (Some fault) = IsRefusal source script fault × IsQuiet sink account
 
 -- What a call answers and leaves, by its command.
 abbrev pub Served : Option Order → (List ℕ → File) → Written → Account → Part → Part → Option Fault → Type 0
 Served None file sink account a b fault = (fault ≡ Some Usage) × IsQuiet sink account
-Served (Some (solo source script)) file sink account a b fault =
-    SoloServed (file source) (file script) sink account a b fault × AreSteady fault (file source) (file script)
+Served (Some order) file sink account a b fault =
+    PlayServed (manner_of order) (file (source_of order)) (file (script_of order)) sink account a b fault
+    × AreSteady fault (file (source_of order)) (file (script_of order))
 
 -- completeness --
 
@@ -196,7 +218,7 @@ pub record GivesWhatIsDue (source script : File) (sink : Written) (fault : Optio
   pub complete : TellsSource source → TellsScript script → (HasFailed source → ⊥) → (HasFailed script → ⊥)
       → (Rose sink.before sink.now → ⊥) → IsDone fault
 
--- what holds of a call of `solo`
-abbrev pub OfSolo : Option Order → (List ℕ → List ℕ → Type 0) → Type 0
-OfSolo None P = Unit {0}
-OfSolo (Some (solo source script)) P = P source script
+-- what holds of the source and the script of a call that plays
+abbrev pub OfPlay : Option Order → (List ℕ → List ℕ → Type 0) → Type 0
+OfPlay None P = Unit {0}
+OfPlay (Some order) P = P (source_of order) (script_of order)

@@ -1,17 +1,21 @@
 -- The command words.
 use Rattle.std.specs.Prelude.{ℕ, List, [], ◌∷◌, Option, Some, None, codes, map, Vec, if◌then◌else◌}
+use Rattle.std.specs.Option.{option_map}
 use Rattle.std.specs.declared.alloc.Global.{Global}
 use Rattle.std.specs.Str.{bytes_eq}
+use Rattle.pair_top.specs.Orders.{Order, solo, turns}
+use Rattle.pair_top.specs.Pattern.{visits_of}
 
 -- the bytes of the words
 abbrev pub words_of : List (Vec ℕ Global) → List (List ℕ)
 words_of words = map (λ word. word.items) words
 
--- a command, with the names of its files
-pub data Order : Type 0 where
-  solo : (source script : List ℕ) → Order
+-- `turns SOURCE SCRIPT PATTERN`, where the last word is a pattern
+abbrev pub turns_of : List ℕ → List ℕ → List ℕ → Option Order
+turns_of source script pattern = option_map (λ visits. turns source script visits) (visits_of pattern)
 
--- the command that the words are: `solo SOURCE SCRIPT`; other words are none
+-- the command that the words are: `solo SOURCE SCRIPT`, or `turns SOURCE SCRIPT PATTERN`; other words are none
 abbrev pub command_of : List (List ℕ) → Option Order
 command_of (word ∷ source ∷ script ∷ []) = if bytes_eq word (codes "solo") then Some (solo source script) else None
+command_of (word ∷ source ∷ script ∷ pattern ∷ []) = if bytes_eq word (codes "turns") then turns_of source script pattern else None
 command_of words = None

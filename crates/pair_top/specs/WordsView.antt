@@ -1,6 +1,30 @@
 -- What contracts see of a command.
+use Rattle.std.specs.Prelude.{ℕ, List, [], ◌≡◌, true, unwrap_or, is_some}
+use Rattle.s7_base.specs.declared.entry.Side.{Side}
 use Rattle.pair_top.specs.declared.words.Command.{Command}
-use Rattle.pair_top.specs.Words.{Order, solo}
+use Rattle.pair_top.specs.declared.words.Command.TheVariants as commands
+use Rattle.pair_top.specs.declared.play.Visits.{Visits}
+use Rattle.pair_top.specs.declared.play.Visits.TheVariants.{Alone, Turns}
+use Rattle.pair_top.specs.Orders.{Order, solo, turns, Manner, alone, by_turns}
+use Rattle.pair_top.specs.Pattern.{visits_of}
+
+-- the visits that a pattern orders
+abbrev pub visits_in : List ℕ → List Side
+visits_in pattern = unwrap_or (visits_of pattern) []
 
 abbrev pub order_of : Command → Order
-order_of command = solo command.source.now command.script.now
+order_of (commands.Solo source script) = solo source.now script.now
+order_of (commands.Turns source script pattern) = turns source.now script.now (visits_in pattern.now)
+
+-- its pattern is one
+abbrev pub IsReadable : Command → Type 0
+IsReadable (commands.Solo source script) = Unit {0}
+IsReadable (commands.Turns source script pattern) = is_some (visits_of pattern.now) ≡ true
+
+abbrev pub manner_in : Visits → Manner
+manner_in Alone = alone
+manner_in (Turns pattern) = by_turns (visits_in pattern.now)
+
+abbrev pub ArePatterns : Visits → Type 0
+ArePatterns Alone = Unit {0}
+ArePatterns (Turns pattern) = is_some (visits_of pattern.now) ≡ true

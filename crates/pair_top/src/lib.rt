@@ -5,6 +5,7 @@ mod fault_text;
 mod faults;
 mod fields;
 mod gates;
+mod pattern;
 mod play;
 mod read_error;
 mod reading;

@@ -1,23 +1,26 @@
 //! The top call.
 ghost use Rattle.std.specs.Prelude.{◌≡◌, ◌≤◌, ◌↔◌, ℕ, List, true, false, Some, IsNone, IfOk, IfErr, OnOk};
+ghost use Rattle.std.specs.Io.KnownBytes.{Appends};
 ghost use Rattle.s7_base.specs.Blocks.{IsPlayable};
 ghost use Rattle.subsystem.specs.Part.{IsNew, IsOpen};
-ghost use Rattle.pair_core.specs.World.{part, first_part};
-ghost use Rattle.pair_core.specs.Places.{IsAt};
+ghost use Rattle.pair_core.specs.declared.endings.Mode.{Mode};
+ghost use Rattle.pair_core.specs.World.{first_world, play};
 ghost use Rattle.pair_core.specs.Progress.{IsAlone};
-ghost use Rattle.pair_core.specs.Text.{HasTail};
+ghost use Rattle.pair_core.specs.CpuTail.{tail_of};
+ghost use Rattle.pair_core.specs.Text.{HasTail, text};
 ghost use Rattle.pair_top.specs.Reading.{file_of, IsAccepted, IsPlanned};
-ghost use Rattle.pair_top.specs.Serving.{IsSoloRefusal, AreSteady, IsAlonePlay, IsSoloOutcome, SoloServed, Served, account_of, written_in, GivesWhatIsDue, OfSolo};
+ghost use Rattle.pair_top.specs.Orders.{is_alone, visits_for, mode_for};
+ghost use Rattle.pair_top.specs.Playing.{AreAt, of_side};
+ghost use Rattle.pair_top.specs.Serving.{IsRefusal, AreSteady, IsFinished, ComesToTail, IsWriting, IsOutcome, PlayServed, Served, setup_of, account_of, written_in, GivesWhatIsDue, OfPlay};
 ghost use Rattle.pair_top.specs.Statuses.{status_of};
 ghost use Rattle.pair_top.specs.Words.{command_of, words_of};
-ghost use Rattle.pair_top.specs.WordsView.{order_of};
+ghost use Rattle.pair_top.specs.WordsView.{order_of, manner_in, IsReadable, ArePatterns};
 
-use crate::play::{finish_alone, play_alone};
+use crate::play::{Played, Visits, finish, play_visits};
 use crate::reading::{read_blocks, read_plant};
 use crate::words::{Command, command_from};
 use crate::{Fault, Gate, Outcome};
-use event_record::Record;
-use pair_core::{Ended, Mode, Pair, Shown, begins};
+use pair_core::{Mode, Pair, begins};
 use pair_io::{Files, Sink};
 use plant_script::Script;
 use s7_base::{Blocks, NoMemory, Side};
@@ -37,7 +40,7 @@ fn read_both<F: Files>(
     ensures source { IfOk result (λ both. IsAccepted (F.content files.old source.now) both.0) }
     ensures playable { IfOk result (λ both. IsPlayable both.0) }
     ensures script { IfOk result (λ both. IsPlanned (F.content files.old script.now) both.1) }
-    ensures refused { IfErr result (IsSoloRefusal
+    ensures refused { IfErr result (IsRefusal
         (file_of (F.content files.old) (F.faults files.old) (F.faults files.new) source.now)
         (file_of (F.content files.old) (F.faults files.old) (F.faults files.new) script.now)) }
     ensures counts { OnOk result ((other : List ℕ) → F.faults files.new other ≡ F.faults files.old other) }
@@ -50,97 +53,132 @@ fn read_both<F: Files>(
     Ok((blocks, plant))
 }
 
-/// A pair for a play of side A alone, and then side A at its start. At `Err` side A is as before.
-fn open_alone(
+/// A pair for a play, with each side that runs at first at its start.
+fn open(
     alloc: Global,
     blocks: &Blocks,
     script: Script,
+    solo: bool,
     a: &mut Subsystem,
+    b: &mut Subsystem,
 ) -> Result<Pair, NoMemory>
-    requires new { IsNew a.old }
+    requires a { IsNew a.old }
+    requires b { IsNew b.old }
     requires playable { IsPlayable blocks.now }
-    ensures setup { IfOk result (λ pair. pair.setup ≡ record { program = blocks.now; plan = script; solo = true }) }
-    ensures alone { IfOk result (λ pair. IsAlone pair.setup pair.world 0) }
-    ensures a { IfOk result (λ pair. IsAt pair.setup.program (part pair.world Side.A) pair.world.log.entries a.new) }
-    ensures b { IfOk result (λ pair. part pair.world Side.B ≡ first_part false) }
+    ensures setup { IfOk result (λ pair. pair.setup ≡ setup_of blocks.now script solo) }
+    ensures world { IfOk result (λ pair. pair.world ≡ first_world solo) }
+    ensures alone { solo ≡ true → IfOk result (λ pair. IsAlone pair.setup pair.world 0) }
+    ensures at { IfOk result (λ pair. AreAt pair a.new b.new) }
 {
-    let pair = Pair::new(alloc, blocks, script, true)?;
-    a.load(alloc, blocks)?;
+    let pair = Pair::new(alloc, blocks, script, solo)?;
     begins();
+    a.load(alloc, blocks)?;
+    if !solo {
+        b.load(alloc, blocks)?;
+    }
     Ok(pair)
 }
 
-/// Plays side A alone to the end of the run.
-fn play_out(mut pair: Pair, end: u32, a: &mut Subsystem) -> (Record, Shown, Ended)
-    requires alone { IsAlone pair.setup pair.world 0 }
+/// The visits of a play, and its end.
+fn play_out(
+    mut pair: Pair,
+    visits: Visits<'_>,
+    end: u32,
+    a: &mut Subsystem,
+    b: &mut Subsystem,
+) -> Played
+    requires at { AreAt pair a.old b.old }
+    requires solo { pair.setup.solo ≡ is_alone (manner_in visits) }
+    requires alone { pair.setup.solo ≡ true → IsAlone pair.setup pair.world 0 }
+    requires patterns { ArePatterns visits }
     requires end { end ≡ pair.setup.plan.end }
     requires few { end ≤ 200000 }
-    requires a { IsAt pair.setup.program (part pair.world Side.A) pair.world.log.entries a.old }
-    requires b { part pair.world Side.B ≡ first_part false }
-    ensures played { IsAlonePlay pair.setup.program pair.setup.plan (account_of result.0.entries result.1.list result.2) a.new }
-    ensures open { HasTail result.2 → IsOpen a.new }
+    ensures finished { IsFinished pair.setup (play pair.setup pair.world (visits_for (manner_in visits.entry) pair.setup.plan))
+        (account_of result.entries.entries result.shown.list result.ended) a.new b.new }
+    ensures tail { HasTail result.ended → ComesToTail pair.setup.program result.entries.entries (of_side result.last a.new b.new) }
 {
-    play_alone(&mut pair, end, a);
-    finish_alone(pair, a)
+    play_visits(&mut pair, visits, end, a, b);
+    finish(pair, a, b)
 }
 
-/// Plays side A alone, and writes the text.
-fn play_solo<K: Sink>(
-    alloc: Global,
-    blocks: &Blocks,
-    script: Script,
-    sink: &mut K,
-    a: &mut Subsystem,
-) -> Outcome
-    requires new { IsNew a.old }
-    requires playable { IsPlayable blocks.now }
+/// Writes the text of a play, whose tail shows this side.
+fn write_text<K: Sink>(sink: &mut K, mode: Mode, played: Played, last: &Subsystem) -> Outcome
+    requires { HasTail played.ended → IsOpen last.now }
     ensures status { result.status ≡ status_of result.fault }
-    ensures played { IsSoloOutcome blocks.now script
-        (written_in (K.written sink.old) (K.written sink.new) (K.faults sink.old) (K.faults sink.new))
-        (account_of result.entries.entries result.shown.list result.ended) a.new result.fault }
+    ensures account { account_of result.entries.entries result.shown.list result.ended ≡ account_of played.entries.entries played.shown.list played.ended }
+    ensures written { IsWriting (text mode played.entries.entries played.shown.list played.ended (tail_of last.now.machine))
+        (written_in (K.written sink.old) (K.written sink.new) (K.faults sink.old) (K.faults sink.new)) result.fault }
 {
-    let end = script.end();
-    let pair = match open_alone(alloc, blocks, script, a) {
-        Ok(pair) => pair,
-        Err(NoMemory) => return Outcome::refused(alloc, Fault::NoMemory),
+    let Played {
+        entries,
+        shown,
+        ended,
+        last: _,
+    } = played;
+    let fault = match print(sink, mode, &entries, &shown, &ended, Some(last)) {
+        Ok(()) => None,
+        Err(_) => Some(Fault::SinkFault),
     };
-    let (entries, shown, ended) = play_out(pair, end, a);
-    match print(sink, Mode::Solo, &entries, &shown, &ended, Some(a)) {
-        Ok(()) => Outcome {
-            status: 0,
-            fault: None,
-            entries,
-            shown,
-            ended,
-        },
-        Err(_) => Outcome {
-            status: Fault::SinkFault.status(),
-            fault: Some(Fault::SinkFault),
-            entries,
-            shown,
-            ended,
-        },
+    Outcome {
+        status: fault.map_or(0, Fault::status),
+        fault,
+        entries,
+        shown,
+        ended,
     }
 }
 
-/// `solo SOURCE SCRIPT`.
-fn serve_solo<F: Files, K: Sink>(
+/// Plays, and writes the text.
+fn play_and_write<K: Sink>(
+    alloc: Global,
+    blocks: &Blocks,
+    script: Script,
+    visits: Visits<'_>,
+    sink: &mut K,
+    a: &mut Subsystem,
+    b: &mut Subsystem,
+) -> Outcome
+    requires a { IsNew a.old }
+    requires b { IsNew b.old }
+    requires playable { IsPlayable blocks.now }
+    requires patterns { ArePatterns visits }
+    ensures status { result.status ≡ status_of result.fault }
+    ensures played { IsOutcome (manner_in visits.entry) blocks.now script
+        (written_in (K.written sink.old) (K.written sink.new) (K.faults sink.old) (K.faults sink.new))
+        (account_of result.entries.entries result.shown.list result.ended) a.new b.new result.fault }
+{
+    let end = script.end();
+    let pair = match open(alloc, blocks, script, visits.is_alone(), a, b) {
+        Ok(pair) => pair,
+        Err(NoMemory) => return Outcome::refused(alloc, Fault::NoMemory),
+    };
+    let played = play_out(pair, visits, end, a, b);
+    match played.last {
+        Side::A => write_text(sink, visits.mode(), played, a),
+        Side::B => write_text(sink, visits.mode(), played, b),
+    }
+}
+
+/// A command that plays the source and the script of these names.
+fn serve_play<F: Files, K: Sink>(
     alloc: Global,
     source: &[u8],
     script: &[u8],
+    visits: Visits<'_>,
     files: &mut F,
     sink: &mut K,
     a: &mut Subsystem,
-    b: &Subsystem,
+    b: &mut Subsystem,
 ) -> Outcome
     requires a { IsNew a.old }
-    requires b { IsNew b.now }
+    requires b { IsNew b.old }
+    requires patterns { ArePatterns visits }
     ensures status { result.status ≡ status_of result.fault }
-    ensures served { SoloServed
+    ensures served { PlayServed (manner_in visits.entry)
         (file_of (F.content files.old) (F.faults files.old) (F.faults files.new) source.now)
         (file_of (F.content files.old) (F.faults files.old) (F.faults files.new) script.now)
         (written_in (K.written sink.old) (K.written sink.new) (K.faults sink.old) (K.faults sink.new))
-        (account_of result.entries.entries result.shown.list result.ended) a.new b.now result.fault }
+        (account_of result.entries.entries result.shown.list result.ended) a.new b.new result.fault }
     ensures steady { AreSteady result.fault
         (file_of (F.content files.old) (F.faults files.old) (F.faults files.new) source.now)
         (file_of (F.content files.old) (F.faults files.old) (F.faults files.new) script.now) }
@@ -154,7 +192,7 @@ fn serve_solo<F: Files, K: Sink>(
         Ok(both) => both,
         Err(fault) => return Outcome::refused(alloc, fault),
     };
-    play_solo(alloc, &blocks, plant, sink, a)
+    play_and_write(alloc, &blocks, plant, visits, sink, a, b)
 }
 
 /// Does what a command says.
@@ -164,25 +202,45 @@ fn serve_command<F: Files, K: Sink>(
     files: &mut F,
     sink: &mut K,
     a: &mut Subsystem,
-    b: &Subsystem,
+    b: &mut Subsystem,
 ) -> Outcome
     requires a { IsNew a.old }
-    requires b { IsNew b.now }
+    requires b { IsNew b.old }
+    requires readable { IsReadable command }
     ensures status { result.status ≡ status_of result.fault }
     ensures served { Served (Some (order_of command.entry))
         (file_of (F.content files.old) (F.faults files.old) (F.faults files.new))
         (written_in (K.written sink.old) (K.written sink.new) (K.faults sink.old) (K.faults sink.new))
-        (account_of result.entries.entries result.shown.list result.ended) a.new b.now result.fault }
+        (account_of result.entries.entries result.shown.list result.ended) a.new b.new result.fault }
     ensures words { result.fault ≡ Some Fault.Usage → ⊥ }
-    ensures due { OfSolo (Some (order_of command.entry)) (λ source script. GivesWhatIsDue
+    ensures due { OfPlay (Some (order_of command.entry)) (λ source script. GivesWhatIsDue
         (file_of (F.content files.old) (F.faults files.old) (F.faults files.new) source)
         (file_of (F.content files.old) (F.faults files.old) (F.faults files.new) script)
         (written_in (K.written sink.old) (K.written sink.new) (K.faults sink.old) (K.faults sink.new)) result.fault) }
 {
-    serve_solo(alloc, command.source, command.script, files, sink, a, b)
+    match command {
+        Command::Solo { source, script } => {
+            serve_play(alloc, source, script, Visits::Alone, files, sink, a, b)
+        }
+        Command::Turns {
+            source,
+            script,
+            pattern,
+        } => serve_play(
+            alloc,
+            source,
+            script,
+            Visits::Turns(pattern),
+            files,
+            sink,
+            a,
+            b,
+        ),
+    }
 }
 
-/// Does what the words say, on the caller's thread: `solo SOURCE SCRIPT` plays side A alone.
+/// Does what the words say, on the caller's thread: `solo SOURCE SCRIPT` plays side A alone, and
+/// `turns SOURCE SCRIPT PATTERN` plays both sides by the letters of the pattern.
 ///
 /// `a` and `b` are as `Subsystem::new` made them. Waits for nobody, and always returns.
 pub fn serve_alone<F: Files, K: Sink>(
@@ -207,7 +265,7 @@ pub fn serve_alone<F: Files, K: Sink>(
     ensures usage { (result.fault ≡ Some Fault.Usage) ↔ IsNone (command_of (words_of words.now)) }
 
     // Each refusal that is due comes; where none is, the command is done to its end.
-    ensures due { OfSolo (command_of (words_of words.now)) (λ source script. GivesWhatIsDue
+    ensures due { OfPlay (command_of (words_of words.now)) (λ source script. GivesWhatIsDue
         (file_of (F.content files.old) (F.faults files.old) (F.faults files.new) source)
         (file_of (F.content files.old) (F.faults files.old) (F.faults files.new) script)
         (written_in (K.written sink.old) (K.written sink.new) (K.faults sink.old) (K.faults sink.new)) result.fault) }
@@ -245,7 +303,7 @@ pub fn s7h_top<R: Threads + Wait + Sync, F: Files, K: Sink, G: Gate + Sync>(
     ensures usage { (result.fault ≡ Some Fault.Usage) ↔ IsNone (command_of (words_of words.now)) }
 
     // Each refusal that is due comes; where none is, the command is done to its end.
-    ensures due { OfSolo (command_of (words_of words.now)) (λ source script. GivesWhatIsDue
+    ensures due { OfPlay (command_of (words_of words.now)) (λ source script. GivesWhatIsDue
         (file_of (F.content files.old) (F.faults files.old) (F.faults files.new) source)
         (file_of (F.content files.old) (F.faults files.old) (F.faults files.new) script)
         (written_in (K.written sink.old) (K.written sink.new) (K.faults sink.old) (K.faults sink.new)) result.fault) }

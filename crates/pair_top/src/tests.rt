@@ -1,5 +1,6 @@
 ghost use Rattle.std.specs.Prelude.{◌≡◌, length, IfOk};
 
+use crate::pattern::is_pattern;
 use crate::*;
 use pair_core::Ended;
 use pair_io::{MemFiles, MemSink};
@@ -205,6 +206,129 @@ fn a_side_that_stops_leaves_none(rt: HostRuntime) -> Result<(), Fail> {
     Ok(())
 }
 
+/// The play of the source and a script by a pattern.
+fn played_by(
+    alloc: Global,
+    script: &[u8],
+    pattern: &[u8],
+    sink: &mut MemSink,
+) -> Result<Left, Fail> {
+    let mut files = files_of(alloc, SOURCE, script, None)?;
+    served(alloc, &[b"turns", b"s", b"p", pattern], &mut files, sink)
+}
+
+/// Scripts, patterns, the texts, and how the run ended. Each side has one life from the first entry; how many entries
+/// it took stands last.
+const TURNS: [(&[u8], &[u8], &[u8], Ended, (u32, u32)); 6] = [
+    // The mark alone tells a run that is spent from one that is at its end.
+    (
+        b"END 1\n",
+        b"aba",
+        b"TRACE 1 PAIR\n0 1 OUT - = DONE\nSHOW A\nSPENT 1\n",
+        Ended::Spent,
+        (1, 1),
+    ),
+    (
+        b"END 1\n",
+        b"abaa",
+        b"TRACE 1 PAIR\n0 1 OUT - = DONE\nSHOW A\nDIAG 1\n0 START\nI -\nQ -\nM -\nEND 1\n",
+        Ended::End,
+        (1, 1),
+    ),
+    // The master shows before the other side takes, and marks before it goes on.
+    (
+        b"END 12\n",
+        b"2*a,3*b,2*a",
+        b"TRACE 1 PAIR\n0 1 OUT - = DONE\nSHOW A\n1 1 IN = IMG -\nSPENT 2\n",
+        Ended::Spent,
+        (2, 1),
+    ),
+    (
+        b"AT 1 FAIL A\nAT 1 FAIL B\nEND 12\n",
+        b"100*ab",
+        b"TRACE 1 PAIR\n0 1 OUT - = DONE\nNONE 1\n",
+        Ended::NoneLeft,
+        (1, 0),
+    ),
+    // Side B is lost before it took the last entry, and side A goes on alone.
+    (
+        b"AT 1 FAIL B\nEND 3\n",
+        b"100*ab",
+        b"TRACE 1 PAIR\n0 1 OUT - = DONE\nSHOW A\n1 1 IN = LOST B FAILED\n2 1 IN = IMG -\n\
+DIAG 2\n0 START\n1 LOST B FAILED\nI -\nQ -\nM -\nEND 3\n",
+        Ended::End,
+        (3, 0),
+    ),
+    // The late master shows, and is lost before the mark: side B shows again.
+    (
+        b"MODULE IN 0 1 SWITCHED\nAT 4 FAIL A LATE\nEND 8\n",
+        b"7*ab,93*ab",
+        b"TRACE 1 PAIR\n\
+0 1 OUT - = DONE\nSHOW A\n1 1 IN = IMG -\n2 1 CYCLE = GO\n\
+3 1 OUT - = DONE\nSHOW A\nAGAIN B\n4 1 IN = LOST A FAILED\n5 1 IN = IMG -\n6 1 CYCLE = GO\n\
+7 1 OUT - = DONE\nSHOW B\nDIAG 2\n0 START\n4 LOST A FAILED\nI -\nQ -\nM -\nEND 8\n",
+        Ended::End,
+        (4, 8),
+    ),
+];
+
+/// The life of a side from the first entry.
+fn life_up_to(next: u32) -> Life {
+    Life {
+        how: How::Loaded,
+        first: 0,
+        next,
+    }
+}
+
+#[test]
+fn turns_are_written(rt: HostRuntime) -> Result<(), Fail> {
+    let alloc = rt.alloc();
+    for (script, pattern, text, ended, taken) in TURNS {
+        let mut sink = MemSink::new(alloc, 1000, Vec::new(alloc))?;
+        let left = played_by(alloc, script, pattern, &mut sink)?;
+        assert_eq!(rt; left.outcome.fault, None);
+        assert_eq!(rt; left.outcome.ended, ended);
+        assert_eq!(rt; sink.written(), text);
+        assert_eq!(rt; left.a.lives(), [life_up_to(taken.0)].as_slice());
+        assert_eq!(rt; left.b.lives(), [life_up_to(taken.1)].as_slice());
+    }
+    Ok(())
+}
+
+/// Patterns, and words that are none.
+const PATTERNS: [(&[u8], bool); 21] = [
+    (b"a", true),
+    (b"b,a", true),
+    (b"1000000*a", true),
+    (b"0001*ab,2*b", true),
+    (b"1000000*abab", true),
+    (&[b'b'; 64], true),
+    (b"", false),
+    (b"a,", false),
+    (b",a", false),
+    (b"a,,b", false),
+    (b"5*ac", false),
+    (b"A", false),
+    (b"a b", false),
+    (b"0*a", false),
+    (b"+1*a", false),
+    (b"1000001*a", false),
+    (b"4*", false),
+    (b"*a", false),
+    (b"2*2*a", false),
+    (b"1000000*abab,a", false),
+    (&[b'b'; 65], false),
+];
+
+#[test]
+fn patterns_are_read(rt: HostRuntime) -> Result<(), Fail> {
+    for (word, is_one) in PATTERNS {
+        assert_eq!(rt; is_pattern(word), is_one);
+    }
+    Ok(())
+}
+
 #[test]
 fn each_refusal_has_its_cause(rt: HostRuntime) -> Result<(), Fail> {
     let alloc = rt.alloc();
@@ -234,7 +358,7 @@ fn each_refusal_has_its_cause(rt: HostRuntime) -> Result<(), Fail> {
             2,
         ),
         (
-            &[b"turns", b"s", b"p", b"1*ab"],
+            &[b"turns", b"s", b"p", b"5*ac"],
             SOURCE,
             SCRIPT,
             None,
@@ -289,11 +413,6 @@ fn a_failing_sink_keeps_the_play(rt: HostRuntime) -> Result<(), Fail> {
         (20, None, b"TRACE 1 SOLO\n0 1 OUT"),
         (37, None, b"TRACE 1 SOLO\n0 1 OUT - = DONE\nSHOW A\n"),
     ];
-    let life = Life {
-        how: How::Loaded,
-        first: 0,
-        next: 12,
-    };
     for (room, failing, text) in cases {
         let mut sink = MemSink::new(alloc, room, list_of(alloc, failing)?)?;
         let left = played(alloc, SCRIPT, &mut sink)?;
@@ -302,7 +421,7 @@ fn a_failing_sink_keeps_the_play(rt: HostRuntime) -> Result<(), Fail> {
         assert_eq!(rt; left.outcome.entries.len(), 12);
         assert_eq!(rt; left.outcome.shown.as_slice().len(), 4);
         assert_eq!(rt; left.outcome.ended, Ended::End);
-        assert_eq!(rt; left.a.lives(), [life].as_slice());
+        assert_eq!(rt; left.a.lives(), [life_up_to(12)].as_slice());
         assert!(rt; left.b.lives().is_empty());
         assert_eq!(rt; sink.written(), text);
     }

@@ -1,0 +1,43 @@
+-- What a command orders.
+use Rattle.std.specs.Prelude.{ℕ, ◌+◌, ◌*◌, Bool, true, false, List, replicate, Option, Some, None}
+use Rattle.s7_base.specs.declared.entry.Side.{Side}
+use Rattle.s7_base.specs.declared.entry.Side.TheVariants.{A}
+use Rattle.plant_script.specs.Plan.{Plan}
+use Rattle.pair_core.specs.declared.endings.Mode.{Mode}
+use Rattle.pair_core.specs.declared.endings.Mode.TheVariants.{Solo, Pair}
+
+-- how is played: side A alone to the end of the run, or both sides by these visits
+pub data Manner : Type 0 where
+  alone : Manner
+  by_turns : (visits : List Side) → Manner
+
+abbrev pub is_alone : Manner → Bool
+is_alone alone = true
+is_alone (by_turns visits) = false
+
+-- the visits of a play: alone, as many as bring side A to the end of the run
+abbrev pub visits_for : Manner → Plan → List Side
+visits_for alone plan = replicate (3 * plan.end + 1) A
+visits_for (by_turns visits) plan = visits
+
+-- which text is written
+abbrev pub mode_for : Manner → Mode
+mode_for alone = Solo
+mode_for (by_turns visits) = Pair
+
+-- a command, with the names of its files
+pub data Order : Type 0 where
+  solo : (source script : List ℕ) → Order
+  turns : (source script : List ℕ) (visits : List Side) → Order
+
+abbrev pub source_of : Order → List ℕ
+source_of (solo source script) = source
+source_of (turns source script visits) = source
+
+abbrev pub script_of : Order → List ℕ
+script_of (solo source script) = script
+script_of (turns source script visits) = script
+
+abbrev pub manner_of : Order → Manner
+manner_of (solo source script) = alone
+manner_of (turns source script visits) = by_turns visits
