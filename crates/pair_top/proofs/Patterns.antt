@@ -1,5 +1,5 @@
 -- Reading a pattern, as the loops do.
-use Rattle.std.proofs.Common.{◌≡◌, ◌≤◌, ◌<◌, ◌+◌, ◌-◌, ◌*◌, ◌∷◌, ◌++◌, [], List, ℕ, zero, suc, Bool, true, false, Option, Some, None, refl, sym, ◌∙◌, ap, arith, length, length-append, cond, eqb, drop, get_or, drop-cons}
+use Rattle.std.proofs.Common.{◌≡◌, ◌≤◌, ◌<◌, ◌+◌, ◌-◌, ◌*◌, ◌∷◌, ◌++◌, [], List, ℕ, suc, Bool, true, false, Option, Some, None, refl, sym, ◌∙◌, ap, arith, length, length-append, cond, eqb, drop, get_or, drop-cons}
 use Rattle.std.specs.Prelude.{is_some, unwrap_or, nat_le, ◌&&◌}
 use Rattle.std.specs.Borrow.{Bor}
 use Rattle.std.specs.Option.{option_map}
@@ -7,13 +7,12 @@ use Rattle.std.specs.List.{flat_map}
 use Rattle.std.specs.Str.{all_ascii_digits}
 use Rattle.std.specs.Char.{is_ascii_digit}
 use Rattle.std.proofs.lemmas.Bool.Decides.{nat_tests}
-use Rattle.std.proofs.lemmas.List.{append-nil}
 use Rattle.s7_base.specs.declared.entry.Side.{Side}
 use Rattle.s7_base.specs.Instruction.{◌>>=◌}
 use Rattle.pair_top.specs.declared.pattern.TheConstants.{MOST_TIMES, MOST_LETTERS, MOST_VISITS}
 use Rattle.pair_top.specs.Fields.{split_at, value_from}
 use Rattle.pair_top.proofs.Pieces.{split_takes}
-use Rattle.pair_top.specs.Pattern.{side_of, sides_from, sides_of, times_by, times_of, Repeated, repeated, visits_of_part, part_by, part_of, onto_first, pieces, parts_of, visits_in, visits_by, visits_of}
+use Rattle.pair_top.specs.Pattern.{side_of, sides_from, sides_of, times_by, Repeated, visits_of_part, part_of, onto_first, pieces, parts_of, visits_in, visits_by, visits_of}
 
 -- letters
 

@@ -1,17 +1,15 @@
 -- A play that has come to its end.
-use Rattle.std.proofs.Common.{◌≡◌, Bool, true, false, refl, List, Option, Some, None, ap, ◌∙◌, sym, subst, inl, inr}
-use Rattle.std.specs.Prelude.{◌&&◌, not}
+use Rattle.std.proofs.Common.{◌≡◌, Bool, true, false, List, Option, Some, None, ap, ◌∙◌, subst, inl, inr}
 use Rattle.s7_base.specs.declared.entry.Request.{Request}
 use Rattle.s7_base.specs.declared.entry.Answer.{Answer}
 use Rattle.s7_base.specs.declared.entry.Entry.{Entry}
 use Rattle.s7_base.specs.Blocks.{Program}
 use Rattle.mc_machine.specs.Meaning.{State}
 use Rattle.mc_machine.specs.Stands.{Running, Shows, Stands, IsRunning, CanAsk, CpuWaits, CpuStopped}
-use Rattle.subsystem.specs.Part.{Part, IsNew}
+use Rattle.subsystem.specs.Part.{Part}
 use Rattle.pair_core.specs.declared.own.Own.{Own}
 use Rattle.pair_core.specs.CpuTail.{noted, tail_of, tail_of_state}
-use Rattle.pair_core.specs.World.{first_part}
-use Rattle.pair_core.specs.Places.{StandsAfter, IsAt, AskedStands}
+use Rattle.pair_core.specs.Places.{IsAt, AskedStands}
 use Rattle.pair_core.specs.Played.{answers_of}
 use Rattle.pair_top.specs.Playing.{ComesTo, IsBrought}
 

@@ -1,5 +1,5 @@
 -- Visits that follow one another.
-use Rattle.std.proofs.Common.{◌≡◌, ◌≤◌, ◌<◌, ◌+◌, ◌-◌, ◌*◌, ◌∷◌, ◌++◌, [], List, ℕ, zero, suc, Bool, true, false, Option, Some, None, refl, sym, ◌∙◌, ap, subst, arith, length, append_assoc, replicate}
+use Rattle.std.proofs.Common.{◌≡◌, ◌<◌, ◌+◌, ◌-◌, ◌∷◌, ◌++◌, [], List, ℕ, suc, Bool, true, false, Option, Some, None, refl, sym, ◌∙◌, ap, subst, arith, append_assoc, replicate}
 use Rattle.std.specs.Prelude.{nat_le, is_some, unwrap_or, if◌then◌else◌}
 use Rattle.std.specs.List.{flat_map}
 use Rattle.std.proofs.lemmas.List.{append-nil}
@@ -8,8 +8,7 @@ use Rattle.s7_base.specs.Instruction.{◌>>=◌}
 use Rattle.pair_core.specs.World.{Setup, World, step, play}
 use Rattle.pair_core.specs.Turns.{is_over}
 use Rattle.pair_top.specs.declared.pattern.TheConstants.{MOST_VISITS}
-use Rattle.pair_top.specs.Pattern.{visits_in as visits_count, side_of, sides_from, sides_of, Repeated, repeated, visits_of_part, part_of, pieces, parts_of, visits_by, visits_of}
-use Rattle.pair_top.specs.PatternView.{sides_in}
+use Rattle.pair_top.specs.Pattern.{visits_in as visits_count, side_of, sides_from, Repeated, repeated, visits_of_part, part_of, pieces, parts_of, visits_by, visits_of}
 use Rattle.pair_top.specs.WordsView.{visits_in}
 use Rattle.pair_top.specs.Playing.{Plays}
 

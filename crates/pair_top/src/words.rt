@@ -33,8 +33,7 @@ pub fn command_from(words: &[Vec<u8>]) -> Option<Command<'_>>
             script: script.as_slice(),
         }),
         [word, source, script, pattern]
-            if word.as_slice() == b"turns".as_slice() && is_pattern(pattern.as_slice()) =>
-        {
+            if word.as_slice() == b"turns".as_slice() && is_pattern(pattern.as_slice()) => {
             Some(Command::Turns {
                 source: source.as_slice(),
                 script: script.as_slice(),

@@ -1,5 +1,5 @@
 -- Counting the visits that a pattern orders, piece by piece.
-use Rattle.std.proofs.Common.{◌≡◌, ◌+◌, ◌*◌, ◌∷◌, [], Some, None, sym, ◌∙◌, ap, arith, rules}
+use Rattle.std.proofs.Common.{◌≡◌, [], None, sym, ◌∙◌, ap}
 use Rattle.std.specs.Option.{option_map}
 use Rattle.pair_top.specs.Pattern.{pieces, parts_of, part_of}
 use Rattle.pair_top.specs.PatternView.{part_view, pieces_left}

@@ -1,5 +1,4 @@
-use Rattle.std.proofs.Common.{◌≡◌, ◌≤◌, ◌+◌, length, ℕ, List, Option, Some, None}
-use Rattle.std.specs.Borrow.{Bor}
+use Rattle.std.proofs.Common.{◌≡◌, ◌≤◌}
 use Rattle.pair_top.specs.Pattern.{pieces, parts_of}
 use Rattle.pair_top.specs.PatternView.{pieces_left}
 use Rattle.pair_top.specs.declared.pattern.TheConstants.{MOST_VISITS}

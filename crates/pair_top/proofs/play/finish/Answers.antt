@@ -1,9 +1,8 @@
 -- How a play ends.
-use Rattle.std.proofs.Common.{◌≡◌, ℕ, List, true, sym, ◌∙◌, ap, subst}
+use Rattle.std.proofs.Common.{◌≡◌, ℕ, List, true, sym, ap, subst}
 use Rattle.s7_base.specs.declared.entry.Side.{Side}
 use Rattle.s7_base.specs.declared.entry.Side.TheVariants.{A, B}
 use Rattle.s7_base.specs.declared.entry.Entry.{Entry}
-use Rattle.subsystem.specs.Part.{Part}
 use Rattle.pair_core.specs.declared.endings.Ended.{Ended}
 use Rattle.pair_core.specs.Sides.{runs}
 use Rattle.pair_core.specs.World.{part, standing_in}
@@ -33,15 +32,15 @@ shows c tail =
     rw c.master-last.ensures c.finish-entries.ensures.good.log.same.master in
     elim c.match-last.branch [
       | in-A v ↦
-        let is : c.master-last.result ≡ A = v.in-A.is in
-        let after : StandsAfter p.program es c.args.a.now.machine =
-        c.finish-entries.ensures.last tail A c.args.a.now (rw is at master) c.requires.at.first in
-        rw (is, v.a-is) ((v.bring.ensures p.program (part w A) es c.requires.at.first).last after)
+          let is : c.master-last.result ≡ A = v.in-A.is in
+          let after : StandsAfter p.program es c.args.a.now.machine =
+          c.finish-entries.ensures.last tail A c.args.a.now (rw is at master) c.requires.at.first in
+          rw (is, v.a-is) ((v.bring.ensures p.program (part w A) es c.requires.at.first).last after)
       | in-B v ↦
-        let is : c.master-last.result ≡ B = v.in-B.is in
-        let after : StandsAfter p.program es c.args.b.now.machine =
-        c.finish-entries.ensures.last tail B c.args.b.now (rw is at master) c.requires.at.second in
-        rw (is, v.b-is) ((v.bring-in-B.ensures p.program (part w B) es c.requires.at.second).last after)
+          let is : c.master-last.result ≡ B = v.in-B.is in
+          let after : StandsAfter p.program es c.args.b.now.machine =
+          c.finish-entries.ensures.last tail B c.args.b.now (rw is at master) c.requires.at.second in
+          rw (is, v.b-is) ((v.bring-in-B.ensures p.program (part w B) es c.requires.at.second).last after)
     ]
 
 pub returns-clause-finished : goal.returns-clause-finished

@@ -1,13 +1,12 @@
 -- The visits of a pattern, part by part.
-use Rattle.std.proofs.Common.{◌≡◌, ◌++◌, Some, None, [], true, false, refl, sym, ◌∙◌, ap, subst}
-use Rattle.std.specs.Prelude.{is_some}
+use Rattle.std.proofs.Common.{◌++◌, [], true, false, refl, sym, ◌∙◌, ap, subst}
 use Rattle.std.specs.Option.{option_map}
 use Rattle.pair_core.specs.World.{Setup, play}
-use Rattle.pair_top.specs.Pattern.{repeated, pieces, parts_of, part_of}
+use Rattle.pair_top.specs.Pattern.{repeated, parts_of}
 use Rattle.pair_top.specs.PatternView.{sides_in, part_view, pieces_left}
 use Rattle.pair_top.specs.WordsView.{visits_in}
 use Rattle.pair_top.specs.Playing.{Plays}
-use Rattle.pair_top.proofs.Plays.{Reaches, reaches_on, reaches_over, ends_all, plays_all, with_over, visits_left, one_more_part, no_part, pattern_visits}
+use Rattle.pair_top.proofs.Plays.{Reaches, reaches_on, reaches_over, ends_all, plays_all, with_over, visits_left, one_more_part, pattern_visits}
 use Rattle.pair_top.proofs.play.play_pattern.Goals as goal
 
 pub loop-left-init : goal.loop-left-init
