@@ -1,0 +1,11 @@
+//! What the text of a run tells.
+ghost use Rattle.s7_base.specs.Blocks.{Program};
+ghost use Rattle.trace_laws.specs.Determines.{Run, TextDetermines};
+
+/// The text of a run determines its record, its showings and its end: two runs of one program with one text, each
+/// under a script of its own, have the same record, the same showings and the same end. The text has its record: its mode
+/// is `Solo` or `Pair`.
+#[tactic(auto, using(crate::proofs::Whole::text_determines))]
+pub fn text_determines()
+    ensures { (program : Program) (first second : Run) → TextDetermines program first second }
+{}
