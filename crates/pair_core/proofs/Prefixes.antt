@@ -48,7 +48,7 @@ one_answer plan st k ask a b h g =
     (λ c d. one_of_two (st.a && st.b && is_cut plan B k) (Lost B Failed) (IsPlainAnswer plan k ask) (one_plain plan k ask) c d)
     a b h g
 
-same_entry : (x y : Entry) → x.request ≡ y.request → x.answer ≡ y.answer → x ≡ y
+pub same_entry : (x y : Entry) → x.request ≡ y.request → x.answer ≡ y.answer → x ≡ y
 same_entry x y h g =
     let first = λ (r : Request). let e : Entry = record { request = r; answer = x.answer } in e in
     let second = λ (b : Answer). let e : Entry = record { request = y.request; answer = b } in e in

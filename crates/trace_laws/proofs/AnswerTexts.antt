@@ -1,7 +1,6 @@
 -- What an answer's text tells.
-use Rattle.std.proofs.Common.{◌≡◌, ◌∙◌, ℕ, zero, suc, ◌+◌, ◌^◌, ◌<◌, ◌≤◌, Bool, true, false, List, [], ◌∷◌, ◌++◌, length, refl, ap, sym, subst, arith, inl, inr}
-use Rattle.std.specs.Prelude.{◌&&◌, MatchBool, get_or, codes, map}
-use Rattle.std.specs.List.{range_with_len}
+use Rattle.std.proofs.Common.{◌≡◌, ◌∙◌, ℕ, ◌+◌, ◌^◌, ◌<◌, Bool, true, false, List, ◌∷◌, ◌++◌, length, refl, ap, sym, subst, arith, inl}
+use Rattle.std.specs.Prelude.{◌&&◌, MatchBool, get_or, codes}
 use Rattle.std.specs.Fmt.{decimal}
 use Rattle.std.proofs.lemmas.List.{append_assoc, append_cancel_left}
 use Rattle.std.proofs.lemmas.List.FromFn.{length-map-range_with_len}
@@ -22,8 +21,8 @@ use Rattle.pair_core.specs.declared.standing.Standing.{Standing}
 use Rattle.pair_core.specs.Cuts.{is_cut}
 use Rattle.pair_core.specs.Lawful.{IsPlainAnswer, IsLawfulAnswer}
 use Rattle.pair_core.specs.Image.{hex, image}
-use Rattle.pair_core.specs.EntryText.{side_word, stop_word, lost_text, back_text, answer_text}
-use Rattle.trace_laws.proofs.Splits.{Free, free_by, free_append, split_at}
+use Rattle.pair_core.specs.EntryText.{side_word, stop_word, lost_text, answer_text}
+use Rattle.trace_laws.proofs.Splits.{Free, IsMark, line_feed, free_by, free_word, free_append, split_at}
 use Rattle.trace_laws.proofs.Numbers.{decimal_free, hex_one, hex_free}
 use Rattle.trace_laws.proofs.Images.{image_one, image_free}
 
@@ -92,7 +91,7 @@ lost_free B Suspect = free_by 10 (codes "LOST B SUSPECT") refl
 abbrev stop_letters : List ℕ → ℕ
 stop_letters t = get_or t 0 0 + get_or t 6 0
 
-stop_one : (c d : StopCode) → stop_word c ≡ stop_word d → c ≡ d
+pub stop_one : (c d : StopCode) → stop_word c ≡ stop_word d → c ≡ d
 stop_one stops.Cycle stops.Cycle e = refl
 stop_one stops.Sfc46 stops.Sfc46 e = refl
 stop_one stops.NoOb121 stops.NoOb121 e = refl
@@ -110,15 +109,15 @@ stop_one stops.Depth d e = absurd (omega (arith, ap stop_letters e))
 stop_one stops.Local d e = absurd (omega (arith, ap stop_letters e))
 stop_one stops.InError d e = absurd (omega (arith, ap stop_letters e))
 
-stop_free : (c : StopCode) → Free 10 (stop_word c)
-stop_free stops.Cycle = free_by 10 (codes "CYCLE") refl
-stop_free stops.Sfc46 = free_by 10 (codes "SFC46") refl
-stop_free stops.NoOb121 = free_by 10 (codes "NOOB121") refl
-stop_free stops.NoOb122 = free_by 10 (codes "NOOB122") refl
-stop_free stops.NoOb85 = free_by 10 (codes "NOOB85") refl
-stop_free stops.Depth = free_by 10 (codes "DEPTH") refl
-stop_free stops.Local = free_by 10 (codes "LOCAL") refl
-stop_free stops.InError = free_by 10 (codes "INERROR") refl
+pub stop_free : (c : ℕ) (code : StopCode) → IsMark c → Free c (stop_word code)
+stop_free c stops.Cycle mark = free_word c (codes "CYCLE") mark refl refl
+stop_free c stops.Sfc46 mark = free_word c (codes "SFC46") mark refl refl
+stop_free c stops.NoOb121 mark = free_word c (codes "NOOB121") mark refl refl
+stop_free c stops.NoOb122 mark = free_word c (codes "NOOB122") mark refl refl
+stop_free c stops.NoOb85 mark = free_word c (codes "NOOB85") mark refl refl
+stop_free c stops.Depth mark = free_word c (codes "DEPTH") mark refl refl
+stop_free c stops.Local mark = free_word c (codes "LOCAL") mark refl refl
+stop_free c stops.InError mark = free_word c (codes "INERROR") mark refl refl
 
 -- behind a word
 tail_one : (word u v : List ℕ) → word ++ u ≡ word ++ v → u ≡ v
@@ -128,7 +127,7 @@ alarm_one : (ob info ob' info' : ℕ) → ob < 2 ^ 64 → ob' < 2 ^ 64 → info 
     → answer_text (answers.Alarm ob info) ≡ answer_text (answers.Alarm ob' info') → answers.Alarm ob info ≡ answers.Alarm ob' info'
 alarm_one ob info ob' info' low low' fits fits' e =
     let text : (o i : ℕ) → answer_text (answers.Alarm o i) ≡ codes "ALARM " ++ (decimal o ++ 32 ∷ hex 4 i) =
-        λ o i. ap (λ (t : List ℕ). t ++ hex 4 i) (append_assoc (codes "ALARM ") (decimal o) (codes " ")) ∙ append_assoc (codes "ALARM ") (decimal o ++ codes " ") (hex 4 i) ∙ ap (λ (t : List ℕ). codes "ALARM " ++ t) (append_assoc (decimal o) (codes " ") (hex 4 i)) in
+    λ o i. ap (λ (t : List ℕ). t ++ hex 4 i) (append_assoc (codes "ALARM ") (decimal o) (codes " ")) ∙ append_assoc (codes "ALARM ") (decimal o ++ codes " ") (hex 4 i) ∙ ap (λ (t : List ℕ). codes "ALARM " ++ t) (append_assoc (decimal o) (codes " ") (hex 4 i)) in
     let behind = tail_one (codes "ALARM ") (decimal ob ++ 32 ∷ hex 4 info) (decimal ob' ++ 32 ∷ hex 4 info') (sym (text ob info) ∙ e ∙ text ob' info') in
     let parts = split_at 32 (decimal ob) (decimal ob') (hex 4 info) (hex 4 info') (decimal_free 32 ob (inl (omega arith))) (decimal_free 32 ob' (inl (omega arith))) behind in
     let obs = decimal_injective ob ob' low low' parts.0 in
@@ -164,8 +163,8 @@ answer_one k (answers.CpuStop c) b ta tb e = absurd (omega (arith, ap form e))
 
 -- an answer is written in one line
 pub answer_free : (k : ℕ) (a : Answer) → IsTold k a → Free 10 (answer_text a)
-answer_free k (answers.Image x) t = free_append 10 (codes "IMG ") (image x) (free_by 10 (codes "IMG ") refl) (image_free x)
-answer_free k (answers.Value x) t = free_append 10 (codes "VAL ") (hex 4 x) (free_by 10 (codes "VAL ") refl) (hex_free 10 4 x (omega arith))
+answer_free k (answers.Image x) t = free_append 10 (codes "IMG ") (image x) (free_by 10 (codes "IMG ") refl) (image_free 10 x line_feed)
+answer_free k (answers.Value x) t = free_append 10 (codes "VAL ") (hex 4 x) (free_by 10 (codes "VAL ") refl) (hex_free 10 4 x line_feed)
 answer_free k (answers.Now x) t = free_append 10 (codes "NOW ") (decimal x) (free_by 10 (codes "NOW ") refl) (decimal_free 10 x (inl (omega arith)))
 answer_free k answers.Done t = free_by 10 (codes "DONE") refl
 answer_free k answers.Go t = free_by 10 (codes "GO") refl
@@ -174,12 +173,12 @@ answer_free k (answers.Alarm ob info) t =
     free_append 10 (codes "ALARM " ++ decimal ob ++ codes " ") (hex 4 info)
     (free_append 10 (codes "ALARM " ++ decimal ob) (codes " ")
     (free_append 10 (codes "ALARM ") (decimal ob) (free_by 10 (codes "ALARM ") refl) (decimal_free 10 ob (inl (omega arith)))) (free_by 10 (codes " ") refl))
-    (hex_free 10 4 info (omega arith))
+    (hex_free 10 4 info line_feed)
 answer_free k (answers.Job job) t = absurd t
 answer_free k (answers.Lost s w) t = lost_free s w
 answer_free k (answers.Back s) t = free_append 10 (codes "BACK ") (side_word s) (free_by 10 (codes "BACK ") refl) (side_free s)
 answer_free k answers.NoModule t = free_by 10 (codes "NOMODULE") refl
-answer_free k (answers.CpuStop c) t = free_append 10 (codes "CPUSTOP ") (stop_word c) (free_by 10 (codes "CPUSTOP ") refl) (stop_free c)
+answer_free k (answers.CpuStop c) t = free_append 10 (codes "CPUSTOP ") (stop_word c) (free_by 10 (codes "CPUSTOP ") refl) (stop_free 10 c line_feed)
 
 -- lawful answers are told --
 

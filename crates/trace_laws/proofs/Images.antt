@@ -1,12 +1,12 @@
 -- How images are written.
-use Rattle.std.proofs.Common.{◌≡◌, ◌∙◌, ℕ, zero, suc, ◌+◌, ◌^◌, ◌/◌, ◌%◌, ◌<◌, ◌≤◌, Bool, true, false, List, [], ◌∷◌, ◌++◌, length, refl, ap, sym, arith, inl, inr}
-use Rattle.std.specs.Prelude.{◌==◌, get_or}
+use Rattle.std.proofs.Common.{◌≡◌, ◌∙◌, ℕ, ◌+◌, ◌^◌, ◌/◌, ◌%◌, ◌<◌, ◌≤◌, List, [], ◌∷◌, ◌++◌, length, refl, ap, sym, arith, inl, inr}
+use Rattle.std.specs.Prelude.{◌==◌, get_or, codes}
 use Rattle.std.specs.Fmt.{decimal}
-use Rattle.std.proofs.lemmas.Bool.{cond_both, cond-true, cond-false, eq-eqb, ne_eqb, eqb-false, cases_eq}
+use Rattle.std.proofs.lemmas.Bool.{cond_both, cond-true, cond-false, eq-eqb, ne_eqb, cases_eq}
 use Rattle.std.proofs.lemmas.List.{append_assoc}
 use Rattle.std.proofs.lemmas.Fmt.{decimal_injective}
 use Rattle.pair_core.specs.Image.{hex_digit, hex_byte, cell, cells, behind_commas, joined, image}
-use Rattle.trace_laws.proofs.Splits.{Free, free_by, free_append, split_at}
+use Rattle.trace_laws.proofs.Splits.{Free, IsMark, mark_out, free_word, free_append, split_at}
 use Rattle.trace_laws.proofs.Numbers.{decimal_is, number_head, decimal_free, hex_byte_free, byte_one}
 
 cells_zero : (at byte : ℕ) (bytes : List ℕ) → byte ≡ 0 → cells at (byte ∷ bytes) ≡ cells (at + 1) bytes
@@ -35,14 +35,14 @@ cells_past : (a b byte : ℕ) (bytes rest : List ℕ) → b < a → a + length b
 cells_past a b byte [] rest past room e = absurd cc
 cells_past a b byte (x ∷ bytes) rest past room e =
     elim (cases_eq x 0) [
-      inl is ↦ cells_past (a + 1) b byte bytes rest (omega arith) (omega arith) (sym (ap behind_commas (cells_zero a x bytes is)) ∙ e)
-    | inr isnt ↦
-        let begins : 44 ∷ (cell a x ++ behind_commas (cells (a + 1) bytes)) ≡ 44 ∷ (decimal b ++ 58 ∷ (hex_byte byte ++ rest)) =
-            sym (ap behind_commas (cells_more a x bytes isnt)) ∙ e in
-        let apart : cell a x ++ behind_commas (cells (a + 1) bytes) ≡ decimal b ++ 58 ∷ (hex_byte byte ++ rest) = cc in
-        let split = cells_split a b x byte (behind_commas (cells (a + 1) bytes)) rest (sym (cell_text a x _) ∙ apart) in
-        let same = decimal_injective a b (omega arith) (omega arith) split.0 in
-        omega arith
+      | inl is ↦ cells_past (a + 1) b byte bytes rest (omega arith) (omega arith) (sym (ap behind_commas (cells_zero a x bytes is)) ∙ e)
+      | inr isnt ↦
+          let begins : 44 ∷ (cell a x ++ behind_commas (cells (a + 1) bytes)) ≡ 44 ∷ (decimal b ++ 58 ∷ (hex_byte byte ++ rest)) =
+          sym (ap behind_commas (cells_more a x bytes isnt)) ∙ e in
+          let apart : cell a x ++ behind_commas (cells (a + 1) bytes) ≡ decimal b ++ 58 ∷ (hex_byte byte ++ rest) = cc in
+          let split = cells_split a b x byte (behind_commas (cells (a + 1) bytes)) rest (sym (cell_text a x _) ∙ apart) in
+          let same = decimal_injective a b (omega arith) (omega arith) split.0 in
+          omega arith
     ]
 
 -- bytes of one length are determined by their cells
@@ -53,28 +53,28 @@ cells_one a [] (y ∷ ys) same room e = absurd (omega arith)
 cells_one a (x ∷ xs) [] same room e = absurd (omega arith)
 cells_one a (x ∷ xs) (y ∷ ys) same room e =
     elim (cases_eq x 0) [
-      inl x_is ↦
-        let left = ap behind_commas (cells_zero a x xs x_is) in
-        elim (cases_eq y 0) [
-          inl y_is ↦
-            let rest = cells_one (a + 1) xs ys (omega arith) (omega arith) (sym left ∙ e ∙ ap behind_commas (cells_zero a y ys y_is)) in
-            cc
-        | inr y_isnt ↦ absurd (cells_past (a + 1) a y xs (behind_commas (cells (a + 1) ys)) (omega arith) (omega arith)
-            (sym left ∙ e ∙ ap behind_commas (cells_more a y ys y_isnt) ∙ ap (λ (t : List ℕ). 44 ∷ t) (cell_text a y _)))
-        ]
-    | inr x_isnt ↦
-        let left = ap behind_commas (cells_more a x xs x_isnt) ∙ ap (λ (t : List ℕ). 44 ∷ t) (cell_text a x (behind_commas (cells (a + 1) xs))) in
-        elim (cases_eq y 0) [
-          inl y_is ↦ absurd (cells_past (a + 1) a x ys (behind_commas (cells (a + 1) xs)) (omega arith) (omega arith)
-            (sym (ap behind_commas (cells_zero a y ys y_is)) ∙ sym e ∙ left))
-        | inr y_isnt ↦
-            let right = ap behind_commas (cells_more a y ys y_isnt) ∙ ap (λ (t : List ℕ). 44 ∷ t) (cell_text a y (behind_commas (cells (a + 1) ys))) in
-            let both : 44 ∷ (decimal a ++ 58 ∷ (hex_byte x ++ behind_commas (cells (a + 1) xs))) ≡ 44 ∷ (decimal a ++ 58 ∷ (hex_byte y ++ behind_commas (cells (a + 1) ys))) = sym left ∙ e ∙ right in
-            let inner : decimal a ++ 58 ∷ (hex_byte x ++ behind_commas (cells (a + 1) xs)) ≡ decimal a ++ 58 ∷ (hex_byte y ++ behind_commas (cells (a + 1) ys)) = cc in
-            let split = cells_split a a x y _ _ inner in
-            let rest = cells_one (a + 1) xs ys (omega arith) (omega arith) split.2 in
-            cc (split.1, rest)
-        ]
+      | inl x_is ↦
+          let left = ap behind_commas (cells_zero a x xs x_is) in
+          elim (cases_eq y 0) [
+            | inl y_is ↦
+                let rest = cells_one (a + 1) xs ys (omega arith) (omega arith) (sym left ∙ e ∙ ap behind_commas (cells_zero a y ys y_is)) in
+                cc
+            | inr y_isnt ↦ absurd (cells_past (a + 1) a y xs (behind_commas (cells (a + 1) ys)) (omega arith) (omega arith)
+                (sym left ∙ e ∙ ap behind_commas (cells_more a y ys y_isnt) ∙ ap (λ (t : List ℕ). 44 ∷ t) (cell_text a y _)))
+          ]
+      | inr x_isnt ↦
+          let left = ap behind_commas (cells_more a x xs x_isnt) ∙ ap (λ (t : List ℕ). 44 ∷ t) (cell_text a x (behind_commas (cells (a + 1) xs))) in
+          elim (cases_eq y 0) [
+            | inl y_is ↦ absurd (cells_past (a + 1) a x ys (behind_commas (cells (a + 1) xs)) (omega arith) (omega arith)
+                (sym (ap behind_commas (cells_zero a y ys y_is)) ∙ sym e ∙ left))
+            | inr y_isnt ↦
+                let right = ap behind_commas (cells_more a y ys y_isnt) ∙ ap (λ (t : List ℕ). 44 ∷ t) (cell_text a y (behind_commas (cells (a + 1) ys))) in
+                let both : 44 ∷ (decimal a ++ 58 ∷ (hex_byte x ++ behind_commas (cells (a + 1) xs))) ≡ 44 ∷ (decimal a ++ 58 ∷ (hex_byte y ++ behind_commas (cells (a + 1) ys))) = sym left ∙ e ∙ right in
+                let inner : decimal a ++ 58 ∷ (hex_byte x ++ behind_commas (cells (a + 1) xs)) ≡ decimal a ++ 58 ∷ (hex_byte y ++ behind_commas (cells (a + 1) ys)) = cc in
+                let split = cells_split a a x y _ _ inner in
+                let rest = cells_one (a + 1) xs ys (omega arith) (omega arith) split.2 in
+                cc (split.1, rest)
+          ]
     ]
 
 -- each cell begins with a digit
@@ -105,21 +105,23 @@ image_one xs ys lx ly e =
     cells_one 0 xs ys (omega arith) (omega arith)
     (joined_one (cells 0 xs) (cells 0 ys) (cells_heads 0 xs) (cells_heads 0 ys) e)
 
--- an image is written in one line --
+-- neither mark stands in an image --
 
-behind_free : (at : ℕ) (bytes : List ℕ) → Free 10 (behind_commas (cells at bytes))
-behind_free at [] = tt
-behind_free at (x ∷ bytes) =
-    cond_both (x == 0) (cells (at + 1) bytes) (cell at x ∷ cells (at + 1) bytes) (λ cs. Free 10 (behind_commas cs))
-    (λ _. behind_free (at + 1) bytes)
-    (λ _. (λ e. omega (arith, e),
-        free_append 10 (cell at x) (behind_commas (cells (at + 1) bytes))
-        (free_append 10 (decimal at) (58 ∷ hex_byte x) (decimal_free 10 at (inl (omega arith))) (λ e. omega (arith, e), hex_byte_free 10 x (omega arith)))
-        (behind_free (at + 1) bytes)))
+cell_free : (c at byte : ℕ) → IsMark c → Free c (cell at byte)
+cell_free c at byte mark =
+    free_append c (decimal at) (58 ∷ hex_byte byte) (decimal_free c at (mark_out c mark)) (free_append c (58 ∷ []) (hex_byte byte) (free_word c (58 ∷ []) mark refl refl) (hex_byte_free c byte mark))
 
-joined_free : (cs : List (List ℕ)) → Free 10 (behind_commas cs) → Free 10 (joined cs)
-joined_free [] h = free_by 10 (45 ∷ []) refl
-joined_free (c ∷ cs) h = h.1
+behind_free : (c at : ℕ) (bytes : List ℕ) → IsMark c → Free c (behind_commas (cells at bytes))
+behind_free c at [] mark = tt
+behind_free c at (x ∷ bytes) mark =
+    cond_both (x == 0) (cells (at + 1) bytes) (cell at x ∷ cells (at + 1) bytes) (λ cs. Free c (behind_commas cs))
+    (λ _. behind_free c (at + 1) bytes mark)
+    (λ _. free_append c (44 ∷ []) (cell at x ++ behind_commas (cells (at + 1) bytes)) (free_word c (44 ∷ []) mark refl refl)
+    (free_append c (cell at x) (behind_commas (cells (at + 1) bytes)) (cell_free c at x mark) (behind_free c (at + 1) bytes mark)))
 
-pub image_free : (bytes : List ℕ) → Free 10 (image bytes)
-image_free bytes = joined_free (cells 0 bytes) (behind_free 0 bytes)
+joined_free : (c : ℕ) (cs : List (List ℕ)) → IsMark c → Free c (behind_commas cs) → Free c (joined cs)
+joined_free c [] mark h = free_word c (codes "-") mark refl refl
+joined_free c (d ∷ ds) mark h = h.1
+
+pub image_free : (c : ℕ) (bytes : List ℕ) → IsMark c → Free c (image bytes)
+image_free c bytes mark = joined_free c (cells 0 bytes) mark (behind_free c 0 bytes mark)

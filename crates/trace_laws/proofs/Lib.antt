@@ -1,5 +1,7 @@
 pub mod AnswerTexts
+pub mod AskTexts
 pub mod Images
+pub mod Lines
 pub mod Numbers
 pub mod Printed
 pub mod Shows

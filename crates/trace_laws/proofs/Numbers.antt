@@ -1,11 +1,11 @@
 -- How numbers are written: decimal digits and hexadecimal ones.
-use Rattle.std.proofs.Common.{◌≡◌, ◌∙◌, ℕ, zero, suc, ◌+◌, ◌*◌, ◌/◌, ◌%◌, ◌^◌, ◌<◌, ◌≤◌, Bool, true, false, List, [], ◌∷◌, ◌++◌, refl, ap, sym, arith, inl, inr}
+use Rattle.std.proofs.Common.{◌≡◌, ℕ, zero, suc, ◌+◌, ◌/◌, ◌%◌, ◌^◌, ◌<◌, ◌≤◌, false, List, [], ◌∷◌, ◌++◌, refl, arith, inl, inr}
 use Rattle.std.specs.Prelude.{◌==◌, ◌⊎◌, nat_lt, get_or}
 use Rattle.std.specs.Fmt.{decimal, digits, digits_onto, digit_glyph}
 use Rattle.std.proofs.Math.Nat.{pow-suc}
 use Rattle.std.proofs.lemmas.Bool.{cond_both, ltb-true, ltb-false}
 use Rattle.pair_core.specs.Image.{hex_digit, hex_byte, hex}
-use Rattle.trace_laws.proofs.Splits.{Free, free_append, last_two}
+use Rattle.trace_laws.proofs.Splits.{Free, IsMark, free_append, last_two}
 
 -- decimal digits alone
 abbrev pub AreDigits : List ℕ → Type 0
@@ -67,16 +67,19 @@ hex_digit_is d =
 hex_digit_one : (a b : ℕ) → hex_digit a ≡ hex_digit b → a ≡ b
 hex_digit_one a b e =
     elim (hex_digit_is a) [
-      inl p ↦ elim (hex_digit_is b) [ inl q ↦ omega (arith, p.0, p.1, q.0, q.1, e) | inr q ↦ omega (arith, p.0, p.1, q.0, q.1, e) ]
-    | inr p ↦ elim (hex_digit_is b) [ inl q ↦ omega (arith, p.0, p.1, q.0, q.1, e) | inr q ↦ omega (arith, p.0, p.1, q.0, q.1, e) ]
+      | inl p ↦ elim (hex_digit_is b) [ inl q ↦ omega (arith, p.0, p.1, q.0, q.1, e) | inr q ↦ omega (arith, p.0, p.1, q.0, q.1, e) ]
+      | inr p ↦ elim (hex_digit_is b) [ inl q ↦ omega (arith, p.0, p.1, q.0, q.1, e) | inr q ↦ omega (arith, p.0, p.1, q.0, q.1, e) ]
     ]
 
-hex_digit_free : (c d : ℕ) → c < 48 → hex_digit d ≡ c → ⊥
-hex_digit_free c d low e =
-    elim (hex_digit_is d) [ inl p ↦ omega (arith, p.0, p.1, e) | inr p ↦ omega (arith, p.0, p.1, e) ]
+hex_digit_free : (c d : ℕ) → IsMark c → hex_digit d ≡ c → ⊥
+hex_digit_free c d mark e =
+    elim mark [
+      | inl is ↦ elim (hex_digit_is d) [ inl p ↦ omega (arith, p.0, p.1, e) | inr p ↦ omega (arith, p.0, p.1, e) ]
+      | inr is ↦ elim (hex_digit_is d) [ inl p ↦ omega (arith, p.0, p.1, e) | inr p ↦ omega (arith, p.0, p.1, e) ]
+    ]
 
-pub hex_byte_free : (c b : ℕ) → c < 48 → Free c (hex_byte b)
-hex_byte_free c b low = (hex_digit_free c (b / 16) low, (hex_digit_free c (b % 16) low, tt))
+pub hex_byte_free : (c b : ℕ) → IsMark c → Free c (hex_byte b)
+hex_byte_free c b mark = (hex_digit_free c (b / 16) mark, (hex_digit_free c (b % 16) mark, tt))
 
 -- two digits determine a byte
 pub byte_one : (a b : ℕ) → hex_digit (a / 16) ≡ hex_digit (b / 16) → hex_digit (a % 16) ≡ hex_digit (b % 16) → a ≡ b
@@ -85,11 +88,11 @@ byte_one a b h l =
     let low = hex_digit_one (a % 16) (b % 16) l in
     omega arith
 
-pub hex_free : (c width value : ℕ) → c < 48 → Free c (hex width value)
+pub hex_free : (c width value : ℕ) → IsMark c → Free c (hex width value)
 unfolding hex
-hex_free c zero value low = tt
-hex_free c (suc width) value low =
-    free_append c (hex width (value / 256)) (hex_byte (value % 256)) (hex_free c width (value / 256) low) (hex_byte_free c (value % 256) low)
+hex_free c zero value mark = tt
+hex_free c (suc width) value mark =
+    free_append c (hex width (value / 256)) (hex_byte (value % 256)) (hex_free c width (value / 256) mark) (hex_byte_free c (value % 256) mark)
 
 -- a value that lies in so many bytes is determined by its digits
 pub hex_one : (width a b : ℕ) → a < 256 ^ width → b < 256 ^ width → hex width a ≡ hex width b → a ≡ b

@@ -1,5 +1,5 @@
 -- Each showing of a run has its line.
-use Rattle.std.proofs.Common.{◌≡◌, ◌∙◌, ℕ, zero, suc, ◌+◌, ◌<◌, ◌≤◌, Bool, true, false, List, [], ◌∷◌, ◌++◌, length, refl, ap, sym, subst, arith, inl, inr}
+use Rattle.std.proofs.Common.{◌≡◌, ◌∙◌, ℕ, ◌+◌, ◌≤◌, Bool, List, [], ◌∷◌, ◌++◌, length, refl, ap, sym, subst, arith, inl, inr}
 use Rattle.std.specs.Prelude.{◌==◌, ◌&&◌, not, if◌then◌else◌}
 use mathlib.Core.List.{IsPrefix}
 use Rattle.std.proofs.lemmas.Bool.{cond_both, cond-true, cond-false, eq-eqb, ne_eqb, cases_eq}
@@ -79,9 +79,9 @@ printed_all plan st k (e ∷ es) =
     let rest = shown_from plan next (k + 1) es in
     let later = shown_later plan next (k + 1) es in
     let left : behind_both k (showings_of plan next k e ++ rest) ≡ rest =
-        cond_both (is_output e) (tagged k (showers plan next (k + 1))) [] (λ l. behind_both k (l ++ rest) ≡ rest)
-        (λ _. behind_two k (showers plan next (k + 1)) rest (few_showers next.master (is_cut plan next.master (k + 1)) (is_late plan next.master (k + 1))
-            (runs next (other_side next.master) && not (is_cut plan (other_side next.master) (k + 1)))) later) (λ _. behind_two k [] rest (omega arith) later) in
+    cond_both (is_output e) (tagged k (showers plan next (k + 1))) [] (λ l. behind_both k (l ++ rest) ≡ rest)
+    (λ _. behind_two k (showers plan next (k + 1)) rest (few_showers next.master (is_cut plan next.master (k + 1)) (is_late plan next.master (k + 1))
+    (runs next (other_side next.master) && not (is_cut plan (other_side next.master) (k + 1)))) later) (λ _. behind_two k [] rest (omega arith) later) in
     subst (ArePrinted (k + 1) es) (sym left) (printed_all plan next (k + 1) es)
 
 nothing_before : (xs : List (ℕ × Side)) → IsPrefix xs [] → xs ≡ []
@@ -96,14 +96,14 @@ behind_prefix k (x ∷ xs) (y ∷ ys) h =
     let heads : x ≡ y = cc in
     let tails : xs ++ h.0 ≡ ys = cc in
     elim (cases_eq x.0 k) [
-      inl is ↦
-        let left = behind_own k x xs is in
-        let right = behind_own k y ys (sym (ap (λ (p : ℕ × Side). p.0) heads) ∙ is) in
-        (h.0, ap (λ (l : List (ℕ × Side)). l ++ h.0) left ∙ tails ∙ sym right)
-    | inr isnt ↦
-        let left = behind_other k x xs isnt in
-        let right = behind_other k y ys (λ e. isnt (ap (λ (p : ℕ × Side). p.0) heads ∙ e)) in
-        (h.0, ap (λ (l : List (ℕ × Side)). l ++ h.0) left ∙ made ∙ sym right)
+      | inl is ↦
+          let left = behind_own k x xs is in
+          let right = behind_own k y ys (sym (ap (λ (p : ℕ × Side). p.0) heads) ∙ is) in
+          (h.0, ap (λ (l : List (ℕ × Side)). l ++ h.0) left ∙ tails ∙ sym right)
+      | inr isnt ↦
+          let left = behind_other k x xs isnt in
+          let right = behind_other k y ys (λ e. isnt (ap (λ (p : ℕ × Side). p.0) heads ∙ e)) in
+          (h.0, ap (λ (l : List (ℕ × Side)). l ++ h.0) left ∙ made ∙ sym right)
     ]
 
 printed_prefix : (k : ℕ) (es : List Entry) (xs ys : List (ℕ × Side)) → IsPrefix xs ys → ArePrinted k es ys → ArePrinted k es xs

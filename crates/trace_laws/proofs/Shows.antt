@@ -1,5 +1,5 @@
 -- What the lines of an entry's showings tell.
-use Rattle.std.proofs.Common.{◌≡◌, ◌∙◌, ℕ, zero, suc, ◌+◌, ◌<◌, ◌≤◌, List, [], ◌∷◌, ◌++◌, length, refl, ap, sym, subst, arith, inl, inr}
+use Rattle.std.proofs.Common.{◌≡◌, ◌∙◌, ℕ, List, [], ◌∷◌, ◌++◌, refl, ap, sym, arith, inl, inr}
 use Rattle.std.specs.Prelude.{◌==◌, ◌⊎◌, get_or, codes}
 use Rattle.std.proofs.lemmas.Bool.{cond-true, cond-false, eq-eqb, ne_eqb, cases_eq}
 use Rattle.std.proofs.lemmas.List.{append_assoc, append_cancel_left}
@@ -29,14 +29,14 @@ shows_or_none : (word : List ℕ) (k : ℕ) (shown : List (ℕ × Side)) → Sho
 shows_or_none word k [] = inr (record { line = λ after. refl; behind = refl })
 shows_or_none word k (x ∷ xs) =
     elim (cases_eq x.0 k) [
-      inl is ↦ inl (record {
+      | inl is ↦ inl (record {
         side = x.1;
         rest = xs;
         is = ap (λ (n : ℕ). let p : ℕ × Side = (n, x.1) in p ∷ xs) is;
         line = λ after. ap (λ (l : List ℕ). l ++ after) (cond-true (x.0 == k) _ _ (eq-eqb x.0 k is)) ∙ line_text word (side_word x.1) after;
         behind = behind_own k x xs is;
       })
-    | inr isnt ↦ inr (record {
+      | inr isnt ↦ inr (record {
         line = λ after. ap (λ (l : List ℕ). l ++ after) (cond-false (x.0 == k) _ _ (ne_eqb x.0 k isnt));
         behind = behind_other k x xs isnt;
       })
@@ -61,25 +61,25 @@ pub one_line : (word : List ℕ) (k : ℕ) (xs ys : List (ℕ × Side)) (x y : L
     → showing_line word k xs ++ x ≡ showing_line word k ys ++ y → OneLine k xs ys x y
 one_line word k xs ys x y ax ay e =
     elim (shows_or_none word k xs) [
-      inl p ↦ elim (shows_or_none word k ys) [
-        inl q ↦
-          let lines = append_cancel_left word _ _ (sym (p.line x) ∙ e ∙ q.line y) in
-          let both = side_line p.side q.side x y lines in
-          record {
-            behind = both.1;
-            showings = λ same.
-              let left : xs ≡ (k, p.side) ∷ p.rest = p.is in
-              let rests : p.rest ≡ q.rest = sym p.behind ∙ same ∙ q.behind in
-              let sides : p.side ≡ q.side = both.0 in
-              let first = λ (s : Side). let one : ℕ × Side = (k, s) in one ∷ p.rest in
-              let one : ℕ × Side = (k, q.side) in
-              left ∙ ap first sides ∙ ap (λ (l : List (ℕ × Side)). one ∷ l) rests ∙ sym q.is;
-          }
-      | inr q ↦ absurd (ay (side_word p.side ++ 10 ∷ x) (sym (q.line y) ∙ sym e ∙ p.line x))
+      | inl p ↦ elim (shows_or_none word k ys) [
+        | inl q ↦
+            let lines = append_cancel_left word _ _ (sym (p.line x) ∙ e ∙ q.line y) in
+            let both = side_line p.side q.side x y lines in
+            record {
+              behind = both.1;
+              showings = λ same.
+                  let left : xs ≡ (k, p.side) ∷ p.rest = p.is in
+                  let rests : p.rest ≡ q.rest = sym p.behind ∙ same ∙ q.behind in
+                  let sides : p.side ≡ q.side = both.0 in
+                  let first = λ (s : Side). let one : ℕ × Side = (k, s) in one ∷ p.rest in
+                  let one : ℕ × Side = (k, q.side) in
+                  left ∙ ap first sides ∙ ap (λ (l : List (ℕ × Side)). one ∷ l) rests ∙ sym q.is;
+            }
+        | inr q ↦ absurd (ay (side_word p.side ++ 10 ∷ x) (sym (q.line y) ∙ sym e ∙ p.line x))
       ]
-    | inr p ↦ elim (shows_or_none word k ys) [
-        inl q ↦ absurd (ax (side_word q.side ++ 10 ∷ y) (sym (p.line x) ∙ e ∙ q.line y))
-      | inr q ↦ record {
+      | inr p ↦ elim (shows_or_none word k ys) [
+        | inl q ↦ absurd (ax (side_word q.side ++ 10 ∷ y) (sym (p.line x) ∙ e ∙ q.line y))
+        | inr q ↦ record {
           behind = sym (p.line x) ∙ e ∙ q.line y;
           showings = λ same. sym p.behind ∙ same ∙ q.behind;
         }
@@ -105,6 +105,6 @@ apart_show text next rest e =
 pub apart_second : (k : ℕ) (shown : List (ℕ × Side)) (text : List ℕ) → IsNext text → IsApart (codes "SHOW ") (showing_line (codes "AGAIN ") k shown ++ text)
 apart_second k shown text next rest e =
     elim (shows_or_none (codes "AGAIN ") k shown) [
-      inl p ↦ omega (arith, ap (λ (t : List ℕ). get_or t 0 0) (sym (p.line text) ∙ e))
-    | inr p ↦ apart_show text next rest (sym (p.line text) ∙ e)
+      | inl p ↦ omega (arith, ap (λ (t : List ℕ). get_or t 0 0) (sym (p.line text) ∙ e))
+      | inr p ↦ apart_show text next rest (sym (p.line text) ∙ e)
     ]

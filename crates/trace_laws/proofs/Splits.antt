@@ -1,6 +1,6 @@
 -- Where a text is split: at a byte that stands in no part before it.
-use Rattle.std.proofs.Common.{◌≡◌, ◌∙◌, ℕ, ◌+◌, ◌<◌, ◌≤◌, Bool, true, false, List, [], ◌∷◌, ◌++◌, length, refl, ap, sym, cond, arith}
-use Rattle.std.specs.Prelude.{◌==◌, ◌&&◌, not, get_or}
+use Rattle.std.proofs.Common.{◌≡◌, ◌∙◌, ℕ, ◌<◌, ◌≤◌, Bool, true, List, [], ◌∷◌, ◌++◌, refl, sym, arith, subst, inl, inr}
+use Rattle.std.specs.Prelude.{◌⊎◌, ◌==◌, ◌&&◌, not}
 use Rattle.std.proofs.lemmas.Bool.{and_parts, not-true, eqb-false}
 use Rattle.std.proofs.lemmas.List.{append_assoc, same_from_push}
 
@@ -23,6 +23,24 @@ free_by c (x ∷ xs) e =
 pub free_append : (c : ℕ) (xs ys : List ℕ) → Free c xs → Free c ys → Free c (xs ++ ys)
 free_append c [] ys h g = g
 free_append c (x ∷ xs) ys h g = (h.0, free_append c xs ys h.1 g)
+
+-- the bytes at which a line is split: the line feed, and the equals sign
+abbrev pub IsMark : ℕ → Type 0
+IsMark c = (c ≡ 10) ⊎ (c ≡ 61)
+
+pub line_feed : IsMark 10
+line_feed = inl refl
+
+pub equals_sign : IsMark 61
+equals_sign = inr refl
+
+pub mark_out : (c : ℕ) → IsMark c → (c < 48) ⊎ (58 ≤ c)
+mark_out c mark = elim mark [ inl is ↦ inl (omega arith) | inr is ↦ inr (omega arith) ]
+
+-- neither stands in a word
+pub free_word : (c : ℕ) (xs : List ℕ) → IsMark c → is_free 10 xs ≡ true → is_free 61 xs ≡ true → Free c xs
+free_word c xs mark e g =
+    elim mark [ inl is ↦ subst (λ (m : ℕ). Free m xs) (sym is) (free_by 10 xs e) | inr is ↦ subst (λ (m : ℕ). Free m xs) (sym is) (free_by 61 xs g) ]
 
 -- texts without a byte that stand before that byte
 pub split_at : (c : ℕ) (u v x y : List ℕ) → Free c u → Free c v → u ++ c ∷ x ≡ v ++ c ∷ y → (u ≡ v) × (x ≡ y)

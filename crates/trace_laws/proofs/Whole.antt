@@ -1,39 +1,26 @@
 -- The whole text of a run, entry by entry.
-use Rattle.std.proofs.Common.{◌≡◌, ◌∙◌, ℕ, ◌+◌, ◌<◌, ◌≤◌, Bool, List, [], ◌∷◌, ◌++◌, length, refl, ap, sym, subst, arith}
-use Rattle.std.specs.Prelude.{Option, Some, None, get_or, codes}
+use Rattle.std.proofs.Common.{◌≡◌, ◌∙◌, ℕ, ◌+◌, ◌<◌, ◌≤◌, Bool, List, [], ◌∷◌, ◌++◌, length, refl, ap, sym, arith}
+use Rattle.std.specs.Prelude.{None, get_or, codes}
 use Rattle.std.specs.Fmt.{decimal}
 use Rattle.std.proofs.lemmas.List.{append_assoc, append_cancel_left}
 use Rattle.s7_base.specs.declared.entry.Side.{Side}
-use Rattle.s7_base.specs.declared.entry.StopCode.{StopCode}
-use Rattle.s7_base.specs.declared.entry.Answer.{Answer}
-use Rattle.s7_base.specs.declared.entry.Request.{Request}
 use Rattle.s7_base.specs.declared.entry.Entry.{Entry}
 use Rattle.s7_base.specs.Blocks.{Program}
-use Rattle.mc_machine.specs.Meaning.{std, next_of, asked_after}
 use Rattle.plant_script.specs.Plan.{Plan}
-use Rattle.pair_core.specs.declared.standing.Standing.{Standing}
 use Rattle.pair_core.specs.declared.endings.Mode.{Mode}
 use Rattle.pair_core.specs.declared.endings.Mode.TheVariants.{Solo, Pair, TailOnly}
 use Rattle.pair_core.specs.declared.endings.Ended.{Ended}
 use Rattle.pair_core.specs.declared.endings.Ended.TheVariants.{End, Stop, NoneLeft, Spent, NotPlayed}
-use Rattle.pair_core.specs.Sides.{first_standing, after}
-use Rattle.pair_core.specs.Stops.{stop_by, stop_of}
-use Rattle.pair_core.specs.Lawful.{LawfulFrom}
-use Rattle.pair_core.specs.Played.{requests_of, answers_of}
+use Rattle.pair_core.specs.Sides.{first_standing}
 use Rattle.pair_core.specs.Endings.{IsEnded}
 use Rattle.pair_core.specs.EntryText.{ask_text, answer_text}
 use Rattle.pair_core.specs.Tail.{Tail}
 use Rattle.pair_core.specs.Text.{showing_line, behind_showing, entries_text, record_text, tail_text, last_line}
-use Rattle.trace_laws.specs.Determines.{Run, HasRecord, TextDetermines}
-use Rattle.trace_laws.proofs.Splits.{split_at}
+use Rattle.trace_laws.specs.Determines.{Run, text_of, HasRecord, IsWritten, AreSame, TextDetermines, TextAloneDetermines}
 use Rattle.trace_laws.proofs.Numbers.{decimal_is, number_head}
-use Rattle.trace_laws.proofs.AnswerTexts.{answer_one, answer_free, lawful_told}
+use Rattle.trace_laws.proofs.Lines.{line_text, TellEntries, Tell, by_program, by_range}
 use Rattle.trace_laws.proofs.Printed.{ArePrinted, behind_both, printed_run}
 use Rattle.trace_laws.proofs.Shows.{one_line, IsNext, apart_again, apart_second}
-
--- what stands between the number of an entry and its answer
-abbrev middle : Request → List ℕ
-middle r = codes " " ++ (decimal r.prio ++ (codes " " ++ (ask_text r.ask ++ codes " = ")))
 
 -- the text from an entry's showings on
 abbrev shows_text : ℕ → List Entry → List (ℕ × Side) → List ℕ → List ℕ
@@ -47,7 +34,7 @@ regroup d b p c a e x l s g t r = simp append_assoc
 
 -- the text from an entry on: its number, its request, its answer, and what follows behind the line feed
 entry_shape : (k : ℕ) (e : Entry) (es : List Entry) (shown : List (ℕ × Side)) (r : List ℕ)
-    → entries_text k (e ∷ es) shown ++ r ≡ decimal k ++ (middle e.request ++ (answer_text e.answer ++ 10 ∷ shows_text k es shown r))
+    → entries_text k (e ∷ es) shown ++ r ≡ decimal k ++ line_text e (shows_text k es shown r)
 entry_shape k e es shown r =
     regroup (decimal k) (codes " ") (decimal e.request.prio) (codes " ") (ask_text e.request.ask) (codes " = ") (answer_text e.answer) (codes "\n")
     (showing_line (codes "SHOW ") k shown) (showing_line (codes "AGAIN ") k (behind_showing k shown)) (entries_text (k + 1) es (behind_both k shown)) r
@@ -55,7 +42,7 @@ entry_shape k e es shown r =
 -- it begins with a digit
 entry_head : (k : ℕ) (e : Entry) (es : List Entry) (shown : List (ℕ × Side)) (r : List ℕ) → get_or (entries_text k (e ∷ es) shown ++ r) 0 0 < 58
 entry_head k e es shown r =
-    let head = number_head (decimal k) (middle e.request ++ (answer_text e.answer ++ 10 ∷ shows_text k es shown r)) (decimal_is k) in
+    let head = number_head (decimal k) (line_text e (shows_text k es shown r)) (decimal_is k) in
     omega (arith, head.1, ap (λ (t : List ℕ). get_or t 0 0) (entry_shape k e es shown r))
 
 -- what may stand behind the last entry: no digit, and no showing
@@ -69,38 +56,24 @@ entries_next k (e ∷ es) shown r last =
     let head = entry_head k e es shown r in
     record { no_again = λ is. omega arith; no_show = λ is. omega arith }
 
-same_entry : (x y : Entry) → x.request ≡ y.request → x.answer ≡ y.answer → x ≡ y
-same_entry x y h g =
-    let first = λ (r : Request). let e : Entry = record { request = r; answer = x.answer } in e in
-    let second = λ (b : Answer). let e : Entry = record { request = y.request; answer = b } in e in
-    ap first h ∙ ap second g
-
--- the lines of an entry, where its request is known
+-- the lines of an entry and of its showings
 record OneEntry (x y : Entry) (k : ℕ) (xs ys : List Entry) (shown shown' : List (ℕ × Side)) (r r' : List ℕ) : Type 0 where
   same : x ≡ y
   showings : behind_both k shown ≡ behind_both k shown' → shown ≡ shown'
   rest : entries_text (k + 1) xs (behind_both k shown) ++ r ≡ entries_text (k + 1) ys (behind_both k shown') ++ r'
 
-one_entry : (k : ℕ) (x y : Entry) (xs ys : List Entry) (shown shown' : List (ℕ × Side)) (r r' : List ℕ)
-    → (answer_text x.answer ++ 10 ∷ shows_text k xs shown r ≡ answer_text y.answer ++ 10 ∷ shows_text k ys shown' r'
-       → (x.answer ≡ y.answer) × (shows_text k xs shown r ≡ shows_text k ys shown' r'))
-    → IsLast r → IsLast r' → x.request ≡ y.request
-    → entries_text k (x ∷ xs) shown ++ r ≡ entries_text k (y ∷ ys) shown' ++ r'
-    → OneEntry x y k xs ys shown shown' r r'
-one_entry k x y xs ys shown shown' r r' answers last last' requests e =
-    let left = answer_text x.answer ++ 10 ∷ shows_text k xs shown r in
-    let right = answer_text y.answer ++ 10 ∷ shows_text k ys shown' r' in
-    let numbered : decimal k ++ (middle x.request ++ left) ≡ decimal k ++ (middle y.request ++ right) =
-        sym (entry_shape k x xs shown r) ∙ e ∙ entry_shape k y ys shown' r' in
-    let asked : middle x.request ++ left ≡ middle y.request ++ right = append_cancel_left (decimal k) _ _ numbered in
-    let answered : left ≡ right = append_cancel_left (middle x.request) left right (asked ∙ ap (λ (q : Request). middle q ++ right) (sym requests)) in
-    let both = answers answered in
+one_entry : (k : ℕ) (x y : Entry) (xs ys : List Entry) (shown shown' : List (ℕ × Side)) (r r' : List ℕ) → TellEntries x y → IsLast r → IsLast r'
+    → entries_text k (x ∷ xs) shown ++ r ≡ entries_text k (y ∷ ys) shown' ++ r' → OneEntry x y k xs ys shown shown' r r'
+one_entry k x y xs ys shown shown' r r' tell last last' e =
+    let numbered : decimal k ++ line_text x (shows_text k xs shown r) ≡ decimal k ++ line_text y (shows_text k ys shown' r') =
+    sym (entry_shape k x xs shown r) ∙ e ∙ entry_shape k y ys shown' r' in
+    let both = tell (shows_text k xs shown r) (shows_text k ys shown' r') (append_cancel_left (decimal k) _ _ numbered) in
     let next = entries_next (k + 1) xs (behind_both k shown) r last in
     let next' = entries_next (k + 1) ys (behind_both k shown') r' last' in
     let first = one_line (codes "SHOW ") k shown shown' _ _ (apart_second k (behind_showing k shown) _ next) (apart_second k (behind_showing k shown') _ next') both.1 in
     let second = one_line (codes "AGAIN ") k (behind_showing k shown) (behind_showing k shown') _ _ (apart_again _ next) (apart_again _ next') first.behind in
     record {
-      same = same_entry x y requests both.0;
+      same = both.0;
       showings = λ behind. first.showings (second.showings behind);
       rest = second.behind;
     }
@@ -111,45 +84,22 @@ record AreOne (xs ys : List Entry) (shown shown' : List (ℕ × Side)) (r r' : L
   showings : shown ≡ shown'
   rest : r ≡ r'
 
--- what holds of the entries that are left, from moment k on
-record AreLeft (program : Program) (before : List Answer) (k : ℕ) (plan : Plan) (st : Standing) (stop : Option StopCode) (es : List Entry) (shown : List (ℕ × Side)) : Type 0 where
-  requests : requests_of es ≡ asked_after program before (answers_of es)
-  lawful : LawfulFrom plan st stop k es
-  printed : ArePrinted k es shown
-
-both_from : (program : Program) (before : List Answer) (k : ℕ) (plan plan' : Plan) (st st' : Standing) (stop stop' : Option StopCode)
-    (xs ys : List Entry) (shown shown' : List (ℕ × Side)) (r r' : List ℕ)
-    → AreLeft program before k plan st stop xs shown → AreLeft program before k plan' st' stop' ys shown'
-    → IsLast r → IsLast r' → entries_text k xs shown ++ r ≡ entries_text k ys shown' ++ r' → AreOne xs ys shown shown' r r'
-both_from program before k plan plan' st st' stop stop' [] [] shown shown' r r' h h' last last' e =
-    record { entries = refl; showings = h.printed ∙ sym h'.printed; rest = e }
-both_from program before k plan plan' st st' stop stop' [] (y ∷ ys) shown shown' r r' h h' last last' e =
+both_from : (k : ℕ) (xs ys : List Entry) (shown shown' : List (ℕ × Side)) (r r' : List ℕ)
+    → Tell xs ys → ArePrinted k xs shown → ArePrinted k ys shown' → IsLast r → IsLast r'
+    → entries_text k xs shown ++ r ≡ entries_text k ys shown' ++ r' → AreOne xs ys shown shown' r r'
+both_from k [] [] shown shown' r r' tell printed printed' last last' e =
+    record { entries = refl; showings = printed ∙ sym printed'; rest = e }
+both_from k [] (y ∷ ys) shown shown' r r' tell printed printed' last last' e =
     let head = entry_head k y ys shown' r' in
     let high = last.high in
     absurd (omega (arith, ap (λ (t : List ℕ). get_or t 0 0) e))
-both_from program before k plan plan' st st' stop stop' (x ∷ xs) [] shown shown' r r' h h' last last' e =
+both_from k (x ∷ xs) [] shown shown' r r' tell printed printed' last last' e =
     let head = entry_head k x xs shown r in
     let high = last'.high in
     absurd (omega (arith, ap (λ (t : List ℕ). get_or t 0 0) e))
-both_from program before k plan plan' st st' stop stop' (x ∷ xs) (y ∷ ys) shown shown' r r' h h' last last' e =
-    let left : Some x.request ∷ requests_of xs ≡ next_of (std program before) ∷ asked_after program (before ++ x.answer ∷ []) (answers_of xs) = h.requests in
-    let right : Some y.request ∷ requests_of ys ≡ next_of (std program before) ∷ asked_after program (before ++ y.answer ∷ []) (answers_of ys) = h'.requests in
-    let requests : x.request ≡ y.request = cc in
-    let told = lawful_told plan st k x.request.ask x.answer h.lawful.0.answer in
-    let told' = lawful_told plan' st' k y.request.ask y.answer h'.lawful.0.answer in
-    let one = one_entry k x y xs ys shown shown' r r'
-        (λ texts.
-          let parts = split_at 10 (answer_text x.answer) (answer_text y.answer) (shows_text k xs shown r) (shows_text k ys shown' r')
-              (answer_free k x.answer told) (answer_free k y.answer told') texts in
-          (answer_one k x.answer y.answer told told' parts.0, parts.1))
-        last last' requests e in
-    let answers : y.answer ≡ x.answer = ap (λ (e : Entry). e.answer) (sym one.same) in
-    let behind : requests_of ys ≡ asked_after program (before ++ x.answer ∷ []) (answers_of ys) =
-        subst (λ (a : Answer). requests_of ys ≡ asked_after program (before ++ a ∷ []) (answers_of ys)) answers (cc right) in
-    let rest = both_from program (before ++ x.answer ∷ []) (k + 1) plan plan' (after st x) (after st' y) _ _ xs ys (behind_both k shown) (behind_both k shown') r r'
-        (record { requests = cc left; lawful = h.lawful.1; printed = h.printed })
-        (record { requests = behind; lawful = h'.lawful.1; printed = h'.printed })
-        last last' one.rest in
+both_from k (x ∷ xs) (y ∷ ys) shown shown' r r' tell printed printed' last last' e =
+    let one = one_entry k x y xs ys shown shown' r r' tell.0 last last' e in
+    let rest = both_from (k + 1) xs ys (behind_both k shown) (behind_both k shown') r r' (tell.1 one.same) printed printed' last last' one.rest in
     record { entries = cc (one.same, rest.entries); showings = one.showings rest.showings; rest = rest.rest }
 
 -- the tail and the last line of a run that was played are no entries and no showings
@@ -194,23 +144,35 @@ behind_title Pair Solo es es' shown shown' r r' h h' e = absurd (omega (arith, a
 behind_title TailOnly mode' es es' shown shown' r r' h h' e = absurd h
 behind_title mode TailOnly es es' shown shown' r r' h h' e = absurd h'
 
-pub text_determines : (program : Program) (first second : Run) → TextDetermines program first second
-text_determines program first second one two e =
+-- where the lines tell the entries, the text tells the run
+by_lines : (program other : Program) (first second : Run) → IsWritten program first → IsWritten other second → Tell first.entries second.entries
+    → text_of first ≡ text_of second → AreSame first second
+by_lines program other first second one two tell e =
     let left = printed_run first.plan first.solo first.entries first.ended first.showings one.run.shown in
     let right = printed_run second.plan second.solo second.entries second.ended second.showings two.run.shown in
     let ends = last_of first.ended first.tail (length first.entries) (was_played first.plan first.solo first.entries first.showings first.ended one.run.ended) in
     let ends' = last_of second.ended second.tail (length second.entries) (was_played second.plan second.solo second.entries second.showings second.ended two.run.ended) in
-    let same = both_from program [] 0 first.plan second.plan (first_standing first.solo) (first_standing second.solo) None None
-        first.entries second.entries first.showings second.showings _ _
-        (record { requests = one.run.requests; lawful = one.run.lawful; printed = left })
-        (record { requests = two.run.requests; lawful = two.run.lawful; printed = right })
-        ends ends'
-        (behind_title first.mode second.mode first.entries second.entries first.showings second.showings _ _ one.record_is_written two.record_is_written e) in
+    let same = both_from 0 first.entries second.entries first.showings second.showings _ _ tell left right ends ends'
+    (behind_title first.mode second.mode first.entries second.entries first.showings second.showings _ _ one.record_is_written two.record_is_written e) in
     let is_ended : IsEnded second.plan second.solo first.entries first.showings second.ended =
-        rw (same.entries, same.showings) two.run.ended in
+    rw (same.entries, same.showings) two.run.ended in
     record {
       entries = same.entries;
       showings = same.showings;
       ended = end_one first.plan second.plan first.solo second.solo first.entries first.showings first.ended second.ended first.tail second.tail
           (length first.entries) (length second.entries) one.run.ended is_ended same.rest;
     }
+
+pub text_determines : (program : Program) (first second : Run) → TextDetermines program first second
+text_determines program first second one two e =
+    by_lines program program first second one two
+    (by_program program [] 0 first.plan second.plan (first_standing first.solo) (first_standing second.solo) None None first.entries second.entries
+    one.run.requests one.run.lawful two.run.requests two.run.lawful)
+    e
+
+pub text_alone_determines : (program other : Program) (first second : Run) → TextAloneDetermines program other first second
+text_alone_determines program other first second one ranges two ranges' e =
+    by_lines program other first second one two
+    (by_range 0 first.plan second.plan (first_standing first.solo) (first_standing second.solo) None None first.entries second.entries
+    ranges one.run.lawful ranges' two.run.lawful)
+    e
