@@ -12,7 +12,7 @@ use Rattle.s7_base.specs.declared.entry.Loss.TheVariants.{Failed}
 use Rattle.s7_base.specs.declared.entry.Request.{Request}
 use Rattle.s7_base.specs.declared.entry.Entry.{Entry}
 use Rattle.s7_base.specs.Blocks.{Program}
-use Rattle.mc_machine.specs.Meaning.{std, next_of, asked_after}
+use Rattle.mc_machine.specs.Meaning.{asked_after}
 use Rattle.plant_script.specs.Plan.{Plan}
 use Rattle.pair_core.specs.declared.standing.Standing.{Standing}
 use Rattle.pair_core.specs.Cuts.{is_cut}
