@@ -153,7 +153,7 @@ by_lines program other first second one two tell e =
     let ends = last_of first.ended first.tail (length first.entries) (was_played first.plan first.solo first.entries first.showings first.ended one.run.ended) in
     let ends' = last_of second.ended second.tail (length second.entries) (was_played second.plan second.solo second.entries second.showings second.ended two.run.ended) in
     let same = both_from 0 first.entries second.entries first.showings second.showings _ _ tell left right ends ends'
-    (behind_title first.mode second.mode first.entries second.entries first.showings second.showings _ _ one.record_is_written two.record_is_written e) in
+    (behind_title first.mode second.mode first.entries second.entries first.showings second.showings _ _ one.has_record two.has_record e) in
     let is_ended : IsEnded second.plan second.solo first.entries first.showings second.ended =
     rw (same.entries, same.showings) two.run.ended in
     record {

@@ -34,10 +34,10 @@ HasRecord Solo = Unit {0}
 HasRecord Pair = Unit {0}
 HasRecord TailOnly = ⊥
 
--- a run of this program under its script, whose text has the record
+-- a run of this program, by its script, whose text has the record
 pub record IsWritten (program : Program) (given : Run) : Type 0 where
   pub run : IsRun program given.plan given.solo given.entries given.showings given.ended
-  pub record_is_written : HasRecord given.mode
+  pub has_record : HasRecord given.mode
 
 -- the same record, the same showings and the same end
 pub record AreSame (first second : Run) : Type 0 where
