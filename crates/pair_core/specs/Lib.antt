@@ -10,6 +10,7 @@ pub mod Kept
 pub mod Lawful
 pub mod Lives
 pub mod Losses
+pub mod OneRecord
 pub mod Places
 pub mod Played
 pub mod Progress

@@ -1,5 +1,5 @@
-//! Laws of every pair: when a subsystem stands where the pair says, and who runs.
-ghost use Rattle.std.specs.Prelude.{List, true, ◌≡◌};
+//! Laws of every pair: when a subsystem stands where the pair says, who runs, and how many records there are.
+ghost use Rattle.std.specs.Prelude.{Bool, List, true, ◌≡◌};
 ghost use Rattle.s7_base.specs.declared.entry.Entry.{Entry};
 ghost use Rattle.s7_base.specs.Blocks.{Program};
 ghost use Rattle.subsystem.specs.Part.{Part};
@@ -9,6 +9,8 @@ ghost use Rattle.pair_core.specs.Sides.{runs};
 ghost use Rattle.pair_core.specs.World.{Setup, World, standing_in};
 ghost use Rattle.pair_core.specs.Good.{Good};
 ghost use Rattle.pair_core.specs.Places.{LoadedStands, NewStands, AskedStands};
+ghost use Rattle.plant_script.specs.Plan.{Plan};
+ghost use Rattle.pair_core.specs.OneRecord.{OneBegins};
 
 /// A subsystem that was loaded stands at the beginning of a record, and a new one for a side that does not run at
 /// first.
@@ -28,4 +30,12 @@ pub fn asking_stays()
 #[tactic(auto, using(crate::proofs::Progress::alone_runs))]
 pub fn alone_runs()
     ensures { (p : Setup) (w : World) → Good p w → p.solo ≡ true → runs (standing_in p w.log) A ≡ true }
+{}
+
+/// Of two records of one program and one script, whose requests are the standard CPU's and whose answers are lawful,
+/// one begins the other. So a record is determined by its length: no line of a script that is read lets a side return or
+/// pass a self-test, and only such a line would leave a choice.
+#[tactic(auto, using(crate::proofs::Prefixes::one_begins))]
+pub fn one_begins()
+    ensures { (program : Program) (plan : Plan) (solo : Bool) (xs ys : List Entry) → OneBegins program plan solo xs ys }
 {}

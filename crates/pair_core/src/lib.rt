@@ -15,7 +15,7 @@ mod state;
 mod turns;
 
 pub use endings::{Ended, Mode, SystemState};
-pub use laws::{alone_runs, asking_stays, begins};
+pub use laws::{alone_runs, asking_stays, begins, one_begins};
 pub use pair::Pair;
 pub use showings::Shown;
 pub use turns::{Reason, Turn};

@@ -1,0 +1,9 @@
+pub mod AnswerTexts
+pub mod AskTexts
+pub mod Images
+pub mod Lines
+pub mod Numbers
+pub mod Printed
+pub mod Shows
+pub mod Splits
+pub mod Whole
