@@ -3,4 +3,5 @@ pub mod EntryLaws
 pub mod Images
 pub mod Lists
 pub mod Notes
+pub mod Numbered
 pub mod Sections

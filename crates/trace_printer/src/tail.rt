@@ -1,8 +1,9 @@
 //! The tail of a text: the diagnostic entries and the images of a CPU.
-ghost use Rattle.std.specs.Prelude.{◌≡◌, ℕ, ◌+◌, ◌<◌, ◌≤◌, ◌++◌, [], length, codes};
+ghost use Rattle.std.specs.Prelude.{◌≡◌, ℕ, ◌+◌, ◌<◌, ◌≤◌, ◌++◌, [], length, slice_index, codes, Some};
+ghost use Rattle.std.specs.Option.{option_map};
 ghost use Rattle.pair_io.specs.Writes.{Prints};
 ghost use Rattle.pair_core.specs.Image.{image, image_room};
-ghost use Rattle.pair_core.specs.Tail.{area_bytes, area_size, IsTailArea, diag_text, note_line, note_lines, count_line, area_line, tail_lines};
+ghost use Rattle.pair_core.specs.Tail.{area_bytes, IsOfSize, IsTailArea, block_of, diag_text, note_line, note_lines, count_line, area_line, area_lines, block_line, block_lines, counter_line, counter_lines, tail_lines};
 
 use crate::entry_text::{push_back, push_lost, push_stop};
 use crate::line::Line;
@@ -12,8 +13,9 @@ use s7_base::{Area, DiagCode, Loss};
 
 /// A CPU, as far as a tail shows it. No call takes memory.
 pub trait TailView {
-    ghost use Rattle.std.specs.Prelude.{◌≡◌, length, slice_get};
-    ghost use Rattle.pair_core.specs.Tail.{Tail, IsTailArea, area_bytes, area_size};
+    ghost use Rattle.std.specs.Prelude.{◌≡◌, ◌≤◌, ℕ, length, slice_get, slice_index, IfSome};
+    ghost use Rattle.std.specs.Option.{option_map};
+    ghost use Rattle.pair_core.specs.Tail.{Tail, IsTailArea, IsOfSize, area_bytes, block_of};
 
     /// What a tail shows.
     ghost tail: { Self → Tail };
@@ -30,7 +32,18 @@ pub trait TailView {
     /// 1,024.
     fn image_byte(&self, area: Area, at_byte: u16) -> Option<u8>
         ensures byte { IsTailArea area → result ≡ slice_get (area_bytes (tail self.now) area) at_byte }
-        ensures size { IsTailArea area → length (area_bytes (tail self.now) area) ≡ area_size area };
+        ensures size { (size : ℕ) → IsOfSize (tail self.now) area size → length (area_bytes (tail self.now) area) ≡ size };
+
+    /// How many bytes a data block has, at most 8,192. `None` comes exactly where it is not loaded.
+    fn block_length(&self, number: u8) -> Option<u16>
+        ensures length { result ≡ option_map length (block_of (tail self.now) number) }
+        ensures few { IfSome result (λ size. size ≤ 8192) }
+        ensures count { length (tail self.now).blocks ≤ 256 };
+
+    /// The value of a counter.
+    fn counter_value(&self, number: u8) -> u16
+        ensures value { result ≡ slice_index (tail self.now).counters number }
+        ensures count { length (tail self.now).counters ≤ 256 };
 }
 
 /// At most 30 bytes.
@@ -80,7 +93,7 @@ fn put_note(line: &mut Line, moment: u64, code: DiagCode)
 /// Adds the image of an area of so many bytes.
 fn push_area<T: TailView>(line: &mut Line, view: &T, area: Area, size: u16)
     requires shown { IsTailArea area }
-    requires size { area_size area ≡ size }
+    requires size { IsOfSize (T.tail view.now) area size }
     requires some { 0 < size }
     requires few { size ≤ 8192 }
     requires room { length line.old ≤ 100 }
@@ -107,7 +120,7 @@ fn push_area<T: TailView>(line: &mut Line, view: &T, area: Area, size: u16)
 fn put_area<T: TailView>(line: &mut Line, view: &T, name: &[u8], area: Area, size: u16)
     requires name { length name.now ≤ 10 }
     requires shown { IsTailArea area }
-    requires size { area_size area ≡ size }
+    requires size { IsOfSize (T.tail view.now) area size }
     requires some { 0 < size }
     requires few { size ≤ 8192 }
     ensures { line.new ≡ area_line name.now (area_bytes (T.tail view.now) area) }
@@ -115,6 +128,37 @@ fn put_area<T: TailView>(line: &mut Line, view: &T, name: &[u8], area: Area, siz
     line.put_text(name);
     line.push_text(b" ");
     push_area(line, view, area, size);
+    line.push_text(b"\n");
+}
+
+/// The line of a data block of so many bytes.
+#[tactic(auto, using(crate::proofs::Digits::twenty_digits, std::proofs::Common::append_assoc))]
+fn put_block<T: TailView>(line: &mut Line, view: &T, number: u8, size: u16)
+    requires size { option_map length (block_of (T.tail view.now) number) ≡ Some size }
+    requires few { size ≤ 8192 }
+    ensures { line.new ≡ block_line number (block_of (T.tail view.now) number) }
+{
+    line.put_text(b"DB ");
+    line.push_decimal(u64::from(number));
+    line.push_text(b" ");
+    if size == 0 {
+        line.push(b'-');
+    } else {
+        push_area(line, view, Area::Db(number), size);
+    }
+    line.push_text(b"\n");
+}
+
+/// The line of a counter that is not 0.
+#[tactic(auto, using(crate::proofs::Digits::twenty_digits, std::proofs::Common::append_assoc))]
+fn put_counter(line: &mut Line, number: u8, value: u16)
+    requires { 0 < value }
+    ensures { line.new ≡ counter_line number value }
+{
+    line.put_text(b"C ");
+    line.push_decimal(u64::from(number));
+    line.push_text(b" ");
+    line.push_decimal(u64::from(value));
     line.push_text(b"\n");
 }
 
@@ -146,6 +190,87 @@ fn print_notes<K: Sink, T: TailView>(
     Ok(())
 }
 
+/// Writes the line of a data block, where it is loaded.
+fn print_block<K: Sink, T: TailView>(
+    sink: &mut K,
+    line: &mut Line,
+    view: &T,
+    number: u8,
+) -> Result<(), SinkFault>
+    ensures writes { Prints K.written K.faults K.takes sink.old sink.new (block_line number (block_of (T.tail view.now) number)) result }
+    ensures count { length (T.tail view.now).blocks ≤ 256 }
+{
+    match view.block_length(number) {
+        None => Ok(()),
+        Some(size) => {
+            put_block(line, view, number, size);
+            write_line(sink, line)
+        }
+    }
+}
+
+/// Writes the data blocks by their numbers, a line each.
+fn print_blocks<K: Sink, T: TailView>(
+    sink: &mut K,
+    line: &mut Line,
+    view: &T,
+) -> Result<(), SinkFault>
+    ensures { Prints K.written K.faults K.takes sink.old sink.new (block_lines 0 (T.tail view.now).blocks) result }
+{
+    for number in 0..256u16 {
+        print_block(sink, line, view, number as u8)?;
+    }
+    Ok(())
+}
+
+/// Writes the line of a counter, where it is not 0.
+fn print_counter<K: Sink, T: TailView>(
+    sink: &mut K,
+    line: &mut Line,
+    view: &T,
+    number: u8,
+) -> Result<(), SinkFault>
+    ensures writes { Prints K.written K.faults K.takes sink.old sink.new (counter_line number (slice_index (T.tail view.now).counters number)) result }
+    ensures count { length (T.tail view.now).counters ≤ 256 }
+{
+    let value = view.counter_value(number);
+    if value == 0 {
+        return Ok(());
+    }
+    put_counter(line, number, value);
+    write_line(sink, line)
+}
+
+/// Writes the counters that are not 0 by their numbers, a line each.
+fn print_counters<K: Sink, T: TailView>(
+    sink: &mut K,
+    line: &mut Line,
+    view: &T,
+) -> Result<(), SinkFault>
+    ensures { Prints K.written K.faults K.takes sink.old sink.new (counter_lines 0 (T.tail view.now).counters) result }
+{
+    for number in 0..256u16 {
+        print_counter(sink, line, view, number as u8)?;
+    }
+    Ok(())
+}
+
+/// Writes the images of I, Q and M, a line each.
+fn print_areas<K: Sink, T: TailView>(
+    sink: &mut K,
+    line: &mut Line,
+    view: &T,
+) -> Result<(), SinkFault>
+    ensures { Prints K.written K.faults K.takes sink.old sink.new (area_lines (T.tail view.now)) result }
+{
+    put_area(line, view, b"I", Area::I, 64);
+    write_line(sink, line)?;
+    put_area(line, view, b"Q", Area::Q, 64);
+    write_line(sink, line)?;
+    put_area(line, view, b"M", Area::M, 1024);
+    write_line(sink, line)
+}
+
 /// Writes the tail, a line at a time.
 pub fn print_tail<K: Sink, T: TailView>(
     sink: &mut K,
@@ -157,10 +282,7 @@ pub fn print_tail<K: Sink, T: TailView>(
     put_count(line, view);
     write_line(sink, line)?;
     print_notes(sink, line, view)?;
-    put_area(line, view, b"I", Area::I, 64);
-    write_line(sink, line)?;
-    put_area(line, view, b"Q", Area::Q, 64);
-    write_line(sink, line)?;
-    put_area(line, view, b"M", Area::M, 1024);
-    write_line(sink, line)
+    print_areas(sink, line, view)?;
+    print_blocks(sink, line, view)?;
+    print_counters(sink, line, view)
 }

@@ -12,17 +12,33 @@ use s7_base::{
 use std::test::Fail;
 use subsystem::Subsystem;
 
-/// The notes and the images of a CPU.
+/// The notes, the images, the first data blocks and the first counters of a CPU.
 #[derive(Drop)]
 struct Cpu {
     notes: [(u64, DiagCode); 9],
     inputs: [u8; 64],
     outputs: [u8; 64],
     flags: [u8; 1024],
+    blocks: [Option<[u8; 4]>; 4],
+    counters: [u16; 12],
+}
+
+impl Cpu {
+    ghost use Rattle.std.specs.Prelude.{◌≡◌, slice_get};
+    ghost use Rattle.pair_core.specs.Tail.{block_by};
+
+    fn block(&self, number: u8) -> Option<[u8; 4]>
+        ensures { result ≡ block_by (slice_get self.now.blocks number) }
+    {
+        match self.blocks.get(usize::from(number)) {
+            Some(block) => *block,
+            None => None,
+        }
+    }
 }
 
 impl TailView for Cpu {
-    ghost tail = { λ cpu. record { notes = cpu.notes; inputs = cpu.inputs; outputs = cpu.outputs; flags = cpu.flags } };
+    ghost tail = { λ cpu. record { notes = cpu.notes; inputs = cpu.inputs; outputs = cpu.outputs; flags = cpu.flags; blocks = cpu.blocks; counters = cpu.counters } };
 
     fn note_count(&self) -> u32 {
         9
@@ -37,7 +53,23 @@ impl TailView for Cpu {
             Area::I => self.inputs.get(usize::from(at_byte)).copied(),
             Area::Q => self.outputs.get(usize::from(at_byte)).copied(),
             Area::M => self.flags.get(usize::from(at_byte)).copied(),
+            Area::Db(number) => {
+                let bytes = self.block(number)?;
+                bytes.get(usize::from(at_byte)).copied()
+            }
             _ => None,
+        }
+    }
+
+    fn block_length(&self, number: u8) -> Option<u16> {
+        self.block(number)?;
+        Some(4)
+    }
+
+    fn counter_value(&self, number: u8) -> u16 {
+        match self.counters.get(usize::from(number)) {
+            Some(value) => *value,
+            None => 0,
         }
     }
 }
@@ -49,6 +81,9 @@ fn make_cpu() -> Cpu {
     let mut flags = [0; 1024];
     flags[21] = 0x03;
     flags[1023] = 0xF0;
+    let mut counters = [0; 12];
+    counters[0] = 7;
+    counters[11] = 999;
     let notes = [
         (0, DiagCode::Start),
         (4, DiagCode::LostFailed(Side::A)),
@@ -65,6 +100,8 @@ fn make_cpu() -> Cpu {
         inputs: [0; 64],
         outputs,
         flags,
+        blocks: [None, Some([0, 1, 0, 5]), None, Some([0; 4])],
+        counters,
     }
 }
 
@@ -118,7 +155,7 @@ const TEXT: &[u8] = b"TRACE 1 PAIR\n\
 29 1 TICK = CPUSTOP CYCLE\n\
 DIAG 9\n0 START\n4 LOST A FAILED\n5 LOST B SUSPECT\n48 BACK B\n50 ERROR 9\n150 CYCLE\n151 OB85 40\n\
 152 DISCREP 1022\n300 STOP CYCLE\n\
-I -\nQ 0:01,63:AF\nM 21:03,1023:F0\n\
+I -\nQ 0:01,63:AF\nM 21:03,1023:F0\nDB 1 1:01,3:05\nDB 3 -\nC 0 7\nC 11 999\n\
 STOP 30 CYCLE\n";
 
 #[test]
@@ -195,7 +232,7 @@ fn every_form_of_line_is_printed(rt: HostRuntime) -> Result<(), Fail> {
 
 const TAIL: &[u8] =
     b"DIAG 9\n0 START\n4 LOST A FAILED\n5 LOST B SUSPECT\n48 BACK B\n50 ERROR 9\n150 CYCLE\n\
-151 OB85 40\n152 DISCREP 1022\n300 STOP CYCLE\nI -\nQ 0:01,63:AF\nM 21:03,1023:F0\nEND 1\n";
+151 OB85 40\n152 DISCREP 1022\n300 STOP CYCLE\nI -\nQ 0:01,63:AF\nM 21:03,1023:F0\nDB 1 1:01,3:05\nDB 3 -\nC 0 7\nC 11 999\nEND 1\n";
 
 #[test]
 fn runs_end_as_they_ended(rt: HostRuntime) -> Result<(), Fail> {

@@ -41,4 +41,12 @@ impl TailView for CpuView<'_> {
     fn image_byte(&self, area: Area, at_byte: u16) -> Option<u8> {
         self.side.image_byte(area, at_byte)
     }
+
+    fn block_length(&self, number: u8) -> Option<u16> {
+        self.side.block_length(number)
+    }
+
+    fn counter_value(&self, number: u8) -> u16 {
+        self.side.counter_value(number)
+    }
 }

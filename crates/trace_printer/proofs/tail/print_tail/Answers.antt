@@ -10,23 +10,22 @@ returns-in_err-print_notes g c =
     goes_on c.put_count.ensures c.in_ok-write_line.ensures
     (halts _ c.from_residual-in_err-print_notes.ensures.0 refl c.in_err-print_notes.ensures)
 
-pub returns-in_err-write_line-2 : goal.returns-in_err-write_line-2
-returns-in_err-write_line-2 g c =
+pub returns-in_err-print_areas : goal.returns-in_err-print_areas
+returns-in_err-print_areas g c =
     goes_on c.put_count.ensures c.in_ok-write_line.ensures
     (goes_on refl c.in_ok-print_notes.ensures
-    (halts _ c.from_residual-in_err-write_line-2.ensures.0 c.put_area.ensures c.in_err-write_line-2.ensures))
+    (halts _ c.from_residual-in_err-print_areas.ensures.0 refl c.in_err-print_areas.ensures))
 
-pub returns-in_err-write_line-3 : goal.returns-in_err-write_line-3
-returns-in_err-write_line-3 g c =
+pub returns-in_err-print_blocks : goal.returns-in_err-print_blocks
+returns-in_err-print_blocks g c =
     goes_on c.put_count.ensures c.in_ok-write_line.ensures
     (goes_on refl c.in_ok-print_notes.ensures
-    (goes_on c.put_area.ensures c.in_ok-write_line-2.ensures
-    (halts _ c.from_residual-in_err-write_line-3.ensures.0 c.put_area-2.ensures c.in_err-write_line-3.ensures)))
+    (goes_on refl c.in_ok-print_areas.ensures
+    (halts _ c.from_residual-in_err-print_blocks.ensures.0 refl c.in_err-print_blocks.ensures)))
 
 pub returns : goal.returns
 returns g c =
     goes_on c.put_count.ensures c.in_ok-write_line.ensures
     (goes_on refl c.in_ok-print_notes.ensures
-    (goes_on c.put_area.ensures c.in_ok-write_line-2.ensures
-    (goes_on c.put_area-2.ensures c.in_ok-write_line-3.ensures
-    (closes c.put_area-3.ensures c.write_line-4.ensures))))
+    (goes_on refl c.in_ok-print_areas.ensures
+    (goes_on refl c.in_ok-print_blocks.ensures (closes refl c.print_counters.ensures))))

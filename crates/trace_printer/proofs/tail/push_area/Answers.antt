@@ -11,7 +11,7 @@ loop-at-preserved g c =
     let here : slice_get bytes c.loop-at.at ≡ Some c.in-Some.byte = sym (c.in-Some.ensures.byte c.requires.shown) in
     let more : drop c.loop-at.at bytes ≡ c.in-Some.byte ∷ drop (c.loop-at.at + 1) bytes = drop_at bytes c.loop-at.at c.in-Some.byte here in
     let before = rw more at c.loop-at.invariant.0 in
-    let size : length bytes ≡ c.args.size = c.in-Some.ensures.size c.requires.shown ∙ c.requires.size in
+    let size : length bytes ≡ c.args.size = c.in-Some.ensures.size c.args.size c.requires.size in
     elim c.if-byte-ne0.branch [
       | then-byte-ne0 w ↦ (
         grind (arith, common_steps, before),
