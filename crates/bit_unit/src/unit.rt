@@ -31,7 +31,7 @@ const ZONES: usize = 8;
 ///
 /// Both stacks grow downwards: the entries stand behind the free places, the innermost first, and
 /// the free places are blank.
-#[derive(Clone, Copy)]
+#[derive(Clone, Copy, Debug)]
 pub struct BitUnit {
     groups: [Group; 7],
     free_groups: usize,

@@ -9,11 +9,14 @@ use Rattle.s7_base.specs.declared.entry.Answer.{Answer}
 use Rattle.s7_base.specs.Blocks.{Program}
 use Rattle.mc_machine.specs.declared.areas.Memory.{Memory}
 use Rattle.mc_machine.specs.declared.places.Level.{Level}
-use Rattle.mc_machine.specs.declared.places.Mode.TheVariants.{Fresh, Ticking}
+use Rattle.mc_machine.specs.declared.places.Mode.TheVariants.{Fresh, Ticking, Timing}
 use Rattle.mc_machine.specs.declared.places.Place.{Place}
-use Rattle.mc_machine.specs.declared.places.Place.TheVariants.{AtOutputs, AtInputs, AtCycle, Over, At}
-use Rattle.mc_machine.specs.Effect.{with_status}
-use Rattle.mc_machine.specs.Meaning.{State, Undefined, Rest, Meaning, Move, Goes, Calls, Reaction, Again, Turn, Asks, Moves, Leaves, Ends, statements_of, takes, answered, resume, noting, moves, reacts, completed, took, asking, does, runs, turn_of, turn, body_within, left, body}
+use Rattle.mc_machine.specs.declared.places.Place.TheVariants.{AtOutputs, AtInputs, AtCycle, AtStop, Over, At}
+use Rattle.mc_machine.specs.declared.instruction.Flow.{Flow}
+use Rattle.mc_machine.specs.declared.instruction.Flow.TheVariants as flow
+use Rattle.mc_machine.specs.Areas.{with_registers}
+use Rattle.mc_machine.specs.Effect.{effect_of}
+use Rattle.mc_machine.specs.Meaning.{State, Undefined, Rest, Meaning, Move, Goes, Calls, Reaction, Again, Completes, Turn, Asks, Moves, Halts, Leaves, Ends, statements_of, flows, stop_request, takes, answered, resume, noting, moves, reacts, completed, took, asking, does, runs, turn_of, turn, body_within, left, body}
 
 -- two continuations agree wherever no more is left than this
 pub record Agree (rest rest' : Rest) (bound : ℕ) : Type 0 where
@@ -31,40 +34,55 @@ moves_same m m' rest rest' b s a lt same agree (Goes memory p) =
     same.at p rest rest' (record s { memory = memory }) a lt (less_agrees rest rest' b (left s a) (omega arith) agree)
 moves_same m m' rest rest' b s a lt same agree (Calls memory p f) =
     same.at p (resume m f rest) (resume m' f rest') (record s { memory = memory }) a lt
-    (record { at = λ s2 a2 h. same.at f.place rest rest' (record s2 { memory = with_status s2.memory f.kept }) a2 (omega arith) (less_agrees rest rest' b (left s2 a2) (omega arith) agree) })
+    (record { at = λ s2 a2 h. same.at f.place rest rest' (record s2 { memory = with_registers s2.memory f.kept }) a2 (omega arith) (less_agrees rest rest' b (left s2 a2) (omega arith) agree) })
 
 reacts_same : (m m' : Meaning) (rest rest' : Rest) (b : ℕ) (s : State) (a : List Answer) → left s a < b → Same m m' b → Agree rest rest' b → (v : Reaction) → reacts m rest s a v ≡ reacts m' rest' s a v
 reacts_same m m' rest rest' b s a lt same agree (Again n v) = moves_same m m' rest rest' b (noting s n) a lt same agree v
+reacts_same m m' rest rest' b s a lt same agree (Completes n v) = moves_same m m' rest rest' b (completed (noting s n)) a (omega arith) same agree v
 
 asking_same : (m m' : Meaning) (here : Place) (r : Request) (rest rest' : Rest) (s : State) (a : List Answer) (b : ℕ) → left s a ≡ b → Same m m' b → Agree rest rest' b → asking m here r rest s a ≡ asking m' here r rest' s a
 asking_same m m' here r rest rest' s [] b e same agree = refl
 asking_same m m' here r rest rest' s (x ∷ a) b e same agree =
-    ap (λ v. if takes r x then v else Undefined) (reacts_same m m' rest rest' b (took s) a (omega arith) same agree (answered s.memory here r.ask x))
+    ap (λ v. if takes r x then v else Undefined) (reacts_same m m' rest rest' b (took s) a (omega arith) same agree (answered s.program s.memory here r.ask x))
 
 -- a turn that completes a statement comes before the 256th
 abbrev pub Counts : Turn → ℕ → Type 0
 Counts (Moves _) since = since < 256
 Counts (Asks r) since = Unit {0}
+Counts (Halts note memory code) since = Unit {0}
 Counts Leaves since = Unit {0}
 Counts Ends since = Unit {0}
 
 does_same : (m m' : Meaning) (here : Place) (rest rest' : Rest) (s : State) (a : List Answer) (b : ℕ) → left s a ≡ b → Same m m' b → Agree rest rest' b → (t : Turn) → Counts t s.since → does m here rest s a t ≡ does m' here rest' s a t
 does_same m m' here rest rest' s a b e same agree (Asks r) c = asking_same m m' here r rest rest' s a b e same agree
 does_same m m' here rest rest' s a b e same agree (Moves v) c = moves_same m m' rest rest' b (completed s) a (omega arith) same agree v
+does_same m m' here rest rest' s a b e same agree (Halts note memory code) c =
+    asking_same m m' (AtStop code) (stop_request code) rest rest' (noting (record s { memory = memory }) (Some note)) a b e same agree
 does_same m m' here rest rest' s a b e same agree Leaves c = agree.at s a (omega arith)
 does_same m m' here rest rest' s a b e same agree Ends c = refl
 
-counts_runs : (block : BlockRef) (at : ℕ) (level : Level) (since : ℕ) (memory : Memory) (o : Option Statement) → Counts (runs block at level since memory o) since
-counts_runs block at level since memory None = tt
-counts_runs block at level since memory (Some statement) =
-    cond_both (nat_lt since 256) _ _ (λ t. Counts t since) (λ e. ltb-true since 256 e) (λ e. tt)
+counts_flows : (program : Program) (block : BlockRef) (at : ℕ) (level : Level) (since : ℕ) (memory : Memory) → since < 256 → (to : Flow) → Counts (flows program block at level memory to) since
+counts_flows program block at level since memory lt flow.Next = lt
+counts_flows program block at level since memory lt (flow.Jump target) = lt
+counts_flows program block at level since memory lt (flow.Among number target) = lt
+counts_flows program block at level since memory lt flow.End = lt
+counts_flows program block at level since memory lt (flow.Fail error) = tt
+counts_flows program block at level since memory lt flow.AskNow = tt
+
+counts_runs : (program : Program) (block : BlockRef) (at : ℕ) (level : Level) (since : ℕ) (memory : Memory) (o : Option Statement) → Counts (runs program block at level since memory o) since
+counts_runs program block at level since memory None = tt
+counts_runs program block at level since memory (Some statement) =
+    cond_both (nat_lt since 256) _ _ (λ t. Counts t since)
+    (λ e. counts_flows program block at level since (effect_of statement memory).0 (ltb-true since 256 e) (effect_of statement memory).1) (λ e. tt)
 
 pub counts_turn : (program : Program) (since : ℕ) (memory : Memory) (p : Place) → Counts (turn_of program since memory p) since
 counts_turn program since memory AtOutputs = tt
 counts_turn program since memory AtInputs = tt
 counts_turn program since memory AtCycle = tt
+counts_turn program since memory (AtStop code) = tt
 counts_turn program since memory Over = tt
-counts_turn program since memory (At block at level Fresh) = counts_runs block at level since memory (slice_get (statements_of program block) at)
+counts_turn program since memory (At block at level Timing) = tt
+counts_turn program since memory (At block at level Fresh) = counts_runs program block at level since memory (slice_get (statements_of program block) at)
 counts_turn program since memory (At block at level Ticking) = tt
 
 -- a turn asks no more of the meaning that it is given than what it says below what is left

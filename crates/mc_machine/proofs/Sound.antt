@@ -1,25 +1,39 @@
 -- Where a request is asked, and what follows a statement.
-use Rattle.std.proofs.Common.{◌≡◌, ℕ, Option, Some, None, refl, subst}
-use Rattle.std.specs.Prelude.{slice_get, nat_lt}
-use Rattle.std.proofs.lemmas.Bool.{cond_both}
+use Rattle.std.proofs.Common.{◌≡◌, ℕ, suc, ◌+◌, ◌<◌, List, [], ◌∷◌, ◌++◌, length, Option, Some, None, refl, sym, ap, ◌∙◌, subst, arith, add-zero, zero-add}
+use Rattle.std.specs.Prelude.{slice_get, nat_lt, if◌then◌else◌}
+use Rattle.std.proofs.lemmas.Bool.{cond_both, lt-ltb}
 use Rattle.s7_base.specs.declared.statement.Statement.{Statement}
 use Rattle.s7_base.specs.declared.blocks.BlockRef.{BlockRef}
+use Rattle.s7_base.specs.declared.entry.Ask.{Ask}
 use Rattle.s7_base.specs.declared.entry.Ask.TheVariants as asks
 use Rattle.s7_base.specs.declared.entry.Request.{Request}
 use Rattle.s7_base.specs.Blocks.{Program}
 use Rattle.mc_machine.specs.declared.areas.Memory.{Memory}
 use Rattle.mc_machine.specs.declared.places.Level.{Level}
-use Rattle.mc_machine.specs.declared.places.Mode.TheVariants.{Fresh, Ticking}
+use Rattle.mc_machine.specs.declared.places.Mode.TheVariants.{Fresh, Ticking, Timing}
 use Rattle.mc_machine.specs.declared.places.Place.{Place}
-use Rattle.mc_machine.specs.declared.places.Place.TheVariants.{AtOutputs, AtInputs, AtCycle, Over, At}
-use Rattle.mc_machine.specs.Meaning.{Asks, statements_of, runs, turn_of, request_of}
-use Rattle.mc_machine.specs.Stands.{IsAskedAt}
+use Rattle.mc_machine.specs.declared.places.Place.TheVariants.{AtOutputs, AtInputs, AtCycle, AtStop, Over, At}
+use Rattle.mc_machine.specs.declared.places.Frame.{Frame}
+use Rattle.mc_machine.specs.declared.instruction.Flow.{Flow}
+use Rattle.mc_machine.specs.declared.instruction.Flow.TheVariants as flow
+use Rattle.mc_machine.specs.Effect.{effect_of}
+use Rattle.mc_machine.specs.Meaning.{Asks, statements_of, flows, runs, turn_of, request_of, stop_request}
+use Rattle.mc_machine.specs.Stands.{Config, Follows, AsksAt, IsAsked, IsAskedAt, IsHigh, AreStacked, IsSound}
 
-asked_run : (block : BlockRef) (at : ℕ) (level : Level) (since : ℕ) (memory : Memory) (r : Request) (o : Option Statement) → runs block at level since memory o ≡ Asks r → IsAskedAt (At block at level Fresh) r.ask
-asked_run block at level since memory r None e = absurd cc
-asked_run block at level since memory r (Some statement) e =
+asked_flow : (program : Program) (block : BlockRef) (at : ℕ) (level : Level) (memory : Memory) (r : Request) (to : Flow) → flows program block at level memory to ≡ Asks r → IsAskedAt (At block at level Fresh) r.ask
+asked_flow program block at level memory r flow.Next e = absurd cc
+asked_flow program block at level memory r (flow.Jump target) e = absurd cc
+asked_flow program block at level memory r (flow.Among number target) e = absurd cc
+asked_flow program block at level memory r flow.End e = absurd cc
+asked_flow program block at level memory r (flow.Fail error) e = absurd cc
+asked_flow program block at level memory r flow.AskNow e =
+    let q : request_of asks.Now level.priority ≡ r = cc in subst (λ (r : Request). IsAskedAt (At block at level Fresh) r.ask) q (block, at, level, Fresh, refl)
+
+asked_run : (program : Program) (block : BlockRef) (at : ℕ) (level : Level) (since : ℕ) (memory : Memory) (r : Request) (o : Option Statement) → runs program block at level since memory o ≡ Asks r → IsAskedAt (At block at level Fresh) r.ask
+asked_run program block at level since memory r None e = absurd cc
+asked_run program block at level since memory r (Some statement) e =
     cond_both (nat_lt since 256) _ _ (λ t. t ≡ Asks r → IsAskedAt (At block at level Fresh) r.ask)
-    (λ _ x. absurd cc)
+    (λ _ x. asked_flow program block at level (effect_of statement memory).0 r (effect_of statement memory).1 x)
     (λ _ x. let q : request_of asks.Tick level.priority ≡ r = cc in subst (λ (r : Request). IsAskedAt (At block at level Fresh) r.ask) q (block, at, level, Fresh, refl))
     e
 
@@ -27,7 +41,66 @@ pub asked_at : (program : Program) (since : ℕ) (memory : Memory) (p : Place) (
 asked_at program since memory AtOutputs r e = let q : request_of (asks.Outputs memory.outputs) 1 ≡ r = cc in subst (λ (r : Request). IsAskedAt AtOutputs r.ask) q refl
 asked_at program since memory AtInputs r e = let q : request_of asks.Inputs 1 ≡ r = cc in subst (λ (r : Request). IsAskedAt AtInputs r.ask) q refl
 asked_at program since memory AtCycle r e = let q : request_of asks.Cycle 1 ≡ r = cc in subst (λ (r : Request). IsAskedAt AtCycle r.ask) q refl
+asked_at program since memory (AtStop code) r e = let q : stop_request code ≡ r = cc in subst (λ (r : Request). IsAskedAt (AtStop code) r.ask) q refl
 asked_at program since memory Over r e = absurd cc
-asked_at program since memory (At block at level Fresh) r e = asked_run block at level since memory r (slice_get (statements_of program block) at) e
+asked_at program since memory (At block at level Fresh) r e = asked_run program block at level since memory r (slice_get (statements_of program block) at) e
 asked_at program since memory (At block at level Ticking) r e =
     let q : request_of asks.Tick level.priority ≡ r = cc in subst (λ (r : Request). IsAskedAt (At block at level Ticking) r.ask) q (block, at, level, Ticking, refl)
+asked_at program since memory (At block at level Timing) r e =
+    let q : request_of asks.Now level.priority ≡ r = cc in subst (λ (r : Request). IsAskedAt (At block at level Timing) r.ask) q (block, at, level, Timing, refl)
+
+pub is_asked : (p : Place) (ask : Ask) → IsAskedAt p ask → IsAsked ask
+is_asked p (asks.Outputs image) h = tt
+is_asked p asks.Inputs h = tt
+is_asked p asks.Cycle h = tt
+is_asked p asks.Tick h = tt
+is_asked p asks.Now h = tt
+is_asked p (asks.Stop code) h = tt
+is_asked p (asks.ReadP addr width) h = absurd h
+is_asked p (asks.WriteP addr width value) h = absurd h
+is_asked p asks.Retrigger h = absurd h
+is_asked p (asks.Reply value) h = absurd h
+
+-- what a place asks is one of those
+pub asks_asked : (c : Config) (r : Request) → AsksAt c r → IsAsked r.ask
+asks_asked c r e = is_asked c.place r.ask (asked_at c.program c.since c.memory c.place r e)
+
+-- frames --
+
+high_pop : (n : ℕ) (frames : List Frame) (frame : Frame) → AreStacked n (frames ++ frame ∷ []) → AreStacked n frames × IsHigh (n + length frames) frame.place
+high_pop n [] frame s = (tt, rw add-zero s.0)
+high_pop n (f ∷ frames) frame s =
+    let r = high_pop (suc n) frames frame s.1 in
+    let e : suc n + length frames ≡ n + length (f ∷ frames) = omega arith in
+    ((s.0, r.0), subst (λ k. IsHigh k frame.place) e r.1)
+
+pub pop_sound : (c c' : Config) (frame : Frame) → c.frames ≡ c'.frames ++ frame ∷ [] → c'.place ≡ frame.place → IsSound c → IsSound c'
+pop_sound c c' frame e p sound =
+    let h = high_pop 0 c'.frames frame (subst (AreStacked 0) e sound.stacked) in
+    record {
+      high = subst (IsHigh (length c'.frames)) (sym p) (subst (λ n. IsHigh n frame.place) (zero-add (length c'.frames)) h.1);
+      stacked = h.0;
+    }
+
+-- a turn in a block --
+
+-- the turn at a place in a block, from what was found there
+acts : (c : Config) (block : BlockRef) (at : ℕ) (level : Level) (statement : Statement) (memory : Memory) (to : Flow) → c.place ≡ At block at level Fresh → slice_get (statements_of c.program block) at ≡ Some statement → c.since < 256 → effect_of statement c.memory ≡ (memory, to) → turn_of c.program c.since c.memory c.place ≡ flows c.program block at level memory to
+acts c block at level statement memory to p s lt e =
+    ap (turn_of c.program c.since c.memory) p
+    ∙ ap (runs c.program block at level c.since c.memory) s
+    ∙ ap (λ b. if b then flows c.program block at level (effect_of statement c.memory).0 (effect_of statement c.memory).1 else Asks (request_of asks.Tick level.priority)) (lt-ltb c.since 256 lt)
+    ∙ ap (λ (x : Memory × Flow). flows c.program block at level x.0 x.1) e
+
+-- what follows the changed memory follows the place
+changed : (program : Program) (c c' : Config) (block : BlockRef) (at : ℕ) (level : Level) (memory : Memory) (o : Option Request) (to : Flow) → (to ≡ flow.AskNow → memory ≡ c.memory) → Follows (flows program block at level memory to) (record c { memory = memory }) o c' → Follows (flows program block at level memory to) c o c'
+changed program c c' block at level memory o flow.Next u f = f
+changed program c c' block at level memory o (flow.Jump target) u f = f
+changed program c c' block at level memory o (flow.Among number target) u f = f
+changed program c c' block at level memory o flow.End u f = f
+changed program c c' block at level memory o (flow.Fail error) u f = f
+changed program c c' block at level memory o flow.AskNow u f = (f.0, f.1 ∙ ap (λ m. record c { memory = m }) (u refl))
+
+pub run_follows : (c c' : Config) (block : BlockRef) (at : ℕ) (level : Level) (statement : Statement) (memory : Memory) (to : Flow) (o : Option Request) → c.place ≡ At block at level Fresh → slice_get (statements_of c.program block) at ≡ Some statement → c.since < 256 → effect_of statement c.memory ≡ (memory, to) → (to ≡ flow.AskNow → memory ≡ c.memory) → Follows (flows c.program block at level memory to) (record c { memory = memory }) o c' → Follows (turn_of c.program c.since c.memory c.place) c o c'
+run_follows c c' block at level statement memory to o p s lt e u f =
+    subst (λ t. Follows t c o c') (sym (acts c block at level statement memory to p s lt e)) (changed c.program c c' block at level memory o to u f)

@@ -1,86 +1,54 @@
--- What each statement does to what the statements see.
-use Rattle.std.specs.Prelude.{ℕ, ◌^◌, ◌/◌, ◌%◌, ◌-◌, ◌==◌, ◌&&◌, ◌||◌, Bool, true, false, not, List, Option, Some, None, if◌then◌else◌, slice_index, slice_set, bit_or, bit_and}
+-- What each statement does to what the statements see, and where it leads: one row a group.
+use Rattle.std.specs.Prelude.{ℕ, Option, Some, None, Result, Ok, Err}
 use Rattle.s7_base.specs.declared.statement.Statement.{Statement}
-use Rattle.s7_base.specs.declared.instruction.BitOperation.{BitOperation}
-use Rattle.s7_base.specs.declared.instruction.BitOperation.TheVariants.{And, AndNot, Or, OrNot, Assign, Set, Reset}
-use Rattle.s7_base.specs.declared.instruction.BitArea.{BitArea}
-use Rattle.s7_base.specs.declared.instruction.BitArea.TheVariants.{I, Q, M}
-use Rattle.s7_base.specs.declared.instruction.BitInstruction.{BitInstruction}
-use Rattle.s7_base.specs.declared.instruction.Instruction.{Instruction}
-use Rattle.s7_base.specs.declared.instruction.Instruction.TheVariants.{Bit}
-use Rattle.s7_base.specs.Instruction.{instruction_of}
-use Rattle.mc_machine.specs.declared.areas.Status.{Status}
+use Rattle.mc_machine.specs.declared.areas.Registers.{Registers}
 use Rattle.mc_machine.specs.declared.areas.Memory.{Memory}
+use Rattle.mc_machine.specs.declared.instruction.Instruction.{Instruction}
+use Rattle.mc_machine.specs.declared.instruction.Instruction.TheVariants as groups
+use Rattle.mc_machine.specs.declared.instruction.Flow.{Flow}
+use Rattle.mc_machine.specs.declared.instruction.Flow.TheVariants.{Next, End, Fail, AskNow}
+use Rattle.mc_machine.specs.Areas.{with_registers, with_status, with_accus}
+use Rattle.mc_machine.specs.BitEffect.{effect_bit, effect_status, effect_group}
+use Rattle.mc_machine.specs.MoveEffect.{effect_move, effect_accu}
+use Rattle.mc_machine.specs.NumberEffect.{effect_number, effect_word}
+use Rattle.mc_machine.specs.JumpEffect.{effect_jump, effect_end, effect_end_when_set}
+use Rattle.mc_machine.specs.TimerEffect.{effect_timer}
+use Rattle.mc_machine.specs.CounterEffect.{effect_counter}
+use Rattle.mc_machine.specs.Reading.{instruction_of}
 
--- the bits of a byte --
+-- the next statement follows over the new memory; a statement that fails changes nothing
+abbrev pub onward : Memory → Result Memory ℕ → Memory × Flow
+onward memory (Ok after) = (after, Next)
+onward memory (Err error) = (memory, Fail error)
 
-abbrev pub bit_of : ℕ → ℕ → Bool
-bit_of byte bit = byte / 2 ^ bit % 2 == 1
+-- the same over new registers
+abbrev pub onward_with : Memory → Result Registers ℕ → Memory × Flow
+onward_with memory (Ok registers) = (with_registers memory registers, Next)
+onward_with memory (Err error) = (memory, Fail error)
 
--- the byte with one bit changed
-abbrev pub with_bit : ℕ → ℕ → Bool → ℕ
-with_bit byte bit value = if value then bit_or byte (2 ^ bit) else bit_and byte (255 - 2 ^ bit)
+abbrev pub led : Memory → Registers × Flow → Memory × Flow
+led memory after = (with_registers memory after.0, after.1)
 
--- the operand of a bit statement --
-
-abbrev pub bytes_of : Memory → BitArea → List ℕ
-bytes_of memory I = memory.inputs
-bytes_of memory Q = memory.outputs
-bytes_of memory M = memory.flags
-
-abbrev pub with_bytes : Memory → BitArea → List ℕ → Memory
-with_bytes memory I bytes = record memory { inputs = bytes }
-with_bytes memory Q bytes = record memory { outputs = bytes }
-with_bytes memory M bytes = record memory { flags = bytes }
-
-abbrev pub operand : Memory → BitInstruction → Bool
-operand memory i = bit_of (slice_index (bytes_of memory i.area) i.at_byte) i.bit
-
-abbrev pub with_operand : Memory → BitInstruction → Bool → Memory
-with_operand memory i value =
-    with_bytes memory i.area
-    (slice_set (bytes_of memory i.area) i.at_byte (with_bit (slice_index (bytes_of memory i.area) i.at_byte) i.bit value))
-
--- the status bits, row by row: x is the operand's bit, v is x or its inverse --
-
--- A, AN
-abbrev pub after_and : Status → Bool → Bool → Status
-after_and s x v =
-    record { first_check = true; rlo = (if s.first_check then s.rlo && v else v) || s.or; sta = x; or = s.or }
-
--- O, ON
-abbrev pub after_or : Status → Bool → Bool → Status
-after_or s x v = record { first_check = true; rlo = (if s.first_check then s.rlo || v else v); sta = x; or = false }
-
--- =, S, R
-abbrev pub after_write : Status → Status
-after_write s = record { first_check = false; rlo = s.rlo; sta = s.rlo; or = false }
-
--- the status bits where no block has begun
-abbrev pub clear_status : Status
-clear_status = record { first_check = false; rlo = false; sta = false; or = false }
-
-abbrev pub with_status : Memory → Status → Memory
-with_status memory status = record memory { status = status }
-
--- the statements --
-
-abbrev pub bit_effect : BitOperation → BitInstruction → Memory → Memory
-bit_effect And i memory = with_status memory (after_and memory.status (operand memory i) (operand memory i))
-bit_effect AndNot i memory = with_status memory (after_and memory.status (operand memory i) (not (operand memory i)))
-bit_effect Or i memory = with_status memory (after_or memory.status (operand memory i) (operand memory i))
-bit_effect OrNot i memory = with_status memory (after_or memory.status (operand memory i) (not (operand memory i)))
-bit_effect Assign i memory = with_status (with_operand memory i memory.status.rlo) (after_write memory.status)
-bit_effect Set i memory = with_status (if memory.status.rlo then with_operand memory i true else memory) (after_write memory.status)
-bit_effect Reset i memory = with_status (if memory.status.rlo then with_operand memory i false else memory) (after_write memory.status)
-
-abbrev pub effect : Instruction → Memory → Memory
-effect (Bit i) memory = bit_effect i.operation i memory
+abbrev pub effect : Instruction → Memory → Memory × Flow
+effect (groups.Bit i) memory = (effect_bit i memory, Next)
+effect (groups.Status i) memory = (with_status memory (effect_status i memory.registers.status), Next)
+effect (groups.Group i) memory = onward_with memory (effect_group i memory.registers)
+effect (groups.Move i) memory = (effect_move i memory, Next)
+effect (groups.Accu i) memory = (with_accus memory (effect_accu i memory.registers.accus), Next)
+effect (groups.Number i) memory = onward_with memory (effect_number i memory.registers)
+effect (groups.Word i) memory = (with_registers memory (effect_word i memory.registers), Next)
+effect (groups.Jump i) memory = led memory (effect_jump i memory.registers)
+effect (groups.Timer op n) memory = (effect_timer op n memory, Next)
+effect (groups.Timed op n) memory = (memory, AskNow)
+effect (groups.Counter op n) memory = onward memory (effect_counter op n memory)
+effect groups.End memory = (with_status memory (effect_end memory.registers.status), End)
+effect groups.EndWhenSet memory = led memory (effect_end_when_set memory.registers)
+effect groups.Nothing memory = (memory, Next)
 
 -- a stored form that is no statement does nothing; well-formed blocks have none
-abbrev pub effect_if : Option Instruction → Memory → Memory
-effect_if None memory = memory
+abbrev pub effect_if : Option Instruction → Memory → Memory × Flow
+effect_if None memory = (memory, Next)
 effect_if (Some instruction) memory = effect instruction memory
 
-abbrev pub effect_of : Statement → Memory → Memory
+abbrev pub effect_of : Statement → Memory → Memory × Flow
 effect_of statement memory = effect_if (instruction_of statement) memory

@@ -1,5 +1,5 @@
 -- The standard CPU: what a program means, by one recursion over places and answers.
-use Rattle.std.specs.Prelude.{ℕ, zero, suc, ◌+◌, ◌-◌, ◌*◌, Bool, true, false, nat_lt, if◌then◌else◌, ◌&&◌, List, [], ◌∷◌, ◌++◌, length, replicate, Option, Some, None, slice_get}
+use Rattle.std.specs.Prelude.{ℕ, zero, suc, ◌+◌, ◌-◌, ◌*◌, Bool, true, false, nat_lt, if◌then◌else◌, ◌&&◌, List, [], ◌∷◌, ◌++◌, length, Option, Some, None, Result, Ok, Err, slice_get}
 use Rattle.s7_base.specs.declared.statement.Statement.{Statement}
 use Rattle.s7_base.specs.declared.blocks.BlockRef.{BlockRef}
 use Rattle.s7_base.specs.declared.blocks.CodeKind.TheVariants.{Ob}
@@ -16,14 +16,24 @@ use Rattle.s7_base.specs.declared.diagnostics.DiagCode.TheVariants as notes
 use Rattle.s7_base.specs.Blocks.{Code, Program, code_of}
 use Rattle.s7_base.specs.Fitting.{fits}
 use Rattle.s7_base.specs.Priorities.{priority_of}
+use Rattle.s7_base.specs.declared.entry.StopCode.{StopCode}
+use Rattle.s7_base.specs.declared.entry.StopCode.TheVariants as stops
 use Rattle.mc_machine.specs.declared.areas.Memory.{Memory}
 use Rattle.mc_machine.specs.declared.places.Level.{Level}
-use Rattle.mc_machine.specs.declared.places.Mode.TheVariants.{Fresh, Ticking}
+use Rattle.mc_machine.specs.declared.places.Mode.{Mode}
+use Rattle.mc_machine.specs.declared.places.Mode.TheVariants.{Fresh, Ticking, Timing}
 use Rattle.mc_machine.specs.declared.places.Place.{Place}
-use Rattle.mc_machine.specs.declared.places.Place.TheVariants.{AtOutputs, AtInputs, AtCycle, Over, At}
+use Rattle.mc_machine.specs.declared.places.Place.TheVariants.{AtOutputs, AtInputs, AtCycle, AtStop, Over, At}
 use Rattle.mc_machine.specs.declared.places.Frame.{Frame}
 use Rattle.mc_machine.specs.declared.places.Note.{Note}
-use Rattle.mc_machine.specs.Effect.{effect_of, clear_status, with_status}
+use Rattle.mc_machine.specs.declared.instruction.Instruction.{Instruction}
+use Rattle.mc_machine.specs.declared.instruction.Instruction.TheVariants.{Timed}
+use Rattle.mc_machine.specs.declared.instruction.Flow.{Flow}
+use Rattle.mc_machine.specs.declared.instruction.Flow.TheVariants as flow
+use Rattle.mc_machine.specs.Areas.{clear_registers, with_registers, start_memory}
+use Rattle.mc_machine.specs.Reading.{instruction_of}
+use Rattle.mc_machine.specs.TimerEffect.{effect_timed}
+use Rattle.mc_machine.specs.Effect.{effect_of}
 
 -- how far a CPU has come: its program, what the statements see, the statements completed since the last answer,
 -- all diagnostic entries, and how many answers it has taken
@@ -55,16 +65,19 @@ pub data Move : Type 0 where
   Goes : (memory : Memory) (place : Place) → Move
   Calls : (memory : Memory) (place : Place) (frame : Frame) → Move
 
--- what happens at a place: the CPU asks; or a statement is completed; or the block ends; or the CPU has stopped
+-- what happens at a place: the CPU asks; or a statement is completed; or one fails, so that a diagnostic entry is made
+-- and the CPU asks to stop; or the block ends; or the CPU has stopped
 pub data Turn : Type 0 where
   Asks : (request : Request) → Turn
   Moves : (move : Move) → Turn
+  Halts : (note : DiagCode) (memory : Memory) (code : StopCode) → Turn
   Leaves : Turn
   Ends : Turn
 
--- what an answer does: perhaps a diagnostic entry is made, and then the CPU is elsewhere
+-- what an answer does: perhaps a diagnostic entry is made, and then the CPU is elsewhere; or a statement is completed by it
 pub data Reaction : Type 0 where
   Again : (note : Option DiagCode) (move : Move) → Reaction
+  Completes : (note : Option DiagCode) (move : Move) → Reaction
 
 abbrev pub request_of : Ask → ℕ → Request
 request_of ask prio = record { prio = prio; ask = ask }
@@ -79,19 +92,37 @@ statements_in (Some code) = code.statements
 abbrev pub statements_of : Program → BlockRef → List Statement
 statements_of program block = statements_in (code_of program block.kind block.number)
 
+-- the jump of a number, from 0, of those that follow a statement, or past the last of them the target
+abbrev pub jump_among : ℕ → ℕ → ℕ → ℕ
+jump_among at number target = if nat_lt (at + 1 + number) target then at + 1 + number else target
+
+-- where a statement leads; an error finds no OB121, so the CPU asks to stop
+abbrev pub flows : Program → BlockRef → ℕ → Level → Memory → Flow → Turn
+flows program block at level memory flow.Next = Moves (Goes memory (At block (at + 1) level Fresh))
+flows program block at level memory (flow.Jump target) = Moves (Goes memory (At block target level Fresh))
+flows program block at level memory (flow.Among number target) = Moves (Goes memory (At block (jump_among at number target) level Fresh))
+flows program block at level memory flow.End = Moves (Goes memory (At block (length (statements_of program block)) level Fresh))
+flows program block at level memory (flow.Fail error) = Halts (notes.Error error) memory stops.NoOb121
+flows program block at level memory flow.AskNow = Asks (request_of asks.Now level.priority)
+
 -- the statement at a place, unless 256 statements were completed since the last answer; behind the last the block ends
-abbrev pub runs : BlockRef → ℕ → Level → ℕ → Memory → Option Statement → Turn
-runs block at level since memory None = Leaves
-runs block at level since memory (Some statement) =
-    if nat_lt since 256 then Moves (Goes (effect_of statement memory) (At block (at + 1) level Fresh)) else Asks (request_of asks.Tick level.priority)
+abbrev pub runs : Program → BlockRef → ℕ → Level → ℕ → Memory → Option Statement → Turn
+runs program block at level since memory None = Leaves
+runs program block at level since memory (Some statement) =
+    if nat_lt since 256 then flows program block at level (effect_of statement memory).0 (effect_of statement memory).1 else Asks (request_of asks.Tick level.priority)
+
+abbrev pub stop_request : StopCode → Request
+stop_request code = request_of (asks.Stop code) 30
 
 abbrev pub turn_of : Program → ℕ → Memory → Place → Turn
 turn_of program since memory AtOutputs = Asks (request_of (asks.Outputs memory.outputs) 1)
 turn_of program since memory AtInputs = Asks (request_of asks.Inputs 1)
 turn_of program since memory AtCycle = Asks (request_of asks.Cycle 1)
+turn_of program since memory (AtStop code) = Asks (stop_request code)
 turn_of program since memory Over = Ends
-turn_of program since memory (At block at level Fresh) = runs block at level since memory (slice_get (statements_of program block) at)
+turn_of program since memory (At block at level Fresh) = runs program block at level since memory (slice_get (statements_of program block) at)
 turn_of program since memory (At block at level Ticking) = Asks (request_of asks.Tick level.priority)
+turn_of program since memory (At block at level Timing) = Asks (request_of asks.Now level.priority)
 
 -- the answers --
 
@@ -106,13 +137,20 @@ abbrev pub lost_note : Side → Loss → DiagCode
 lost_note side Failed = notes.LostFailed side
 lost_note side Suspect = notes.LostSuspect side
 
+-- how a block makes a request again
+abbrev pub again_mode : Ask → Mode → Mode
+again_mode asks.Tick mode = Ticking
+again_mode asks.Now mode = Timing
+again_mode _ mode = mode
+
 -- a request that is not ended is made again as it is
-abbrev pub again : Place → Place
-again (At block at level mode) = At block at level Ticking
-again AtOutputs = AtOutputs
-again AtInputs = AtInputs
-again AtCycle = AtCycle
-again Over = Over
+abbrev pub again : Ask → Place → Place
+again ask (At block at level mode) = At block at level (again_mode ask mode)
+again ask AtOutputs = AtOutputs
+again ask AtInputs = AtInputs
+again ask AtCycle = AtCycle
+again ask (AtStop code) = AtStop code
+again ask Over = Over
 
 -- a block goes on with its statement
 abbrev pub resumed : Place → Place
@@ -120,19 +158,46 @@ resumed (At block at level mode) = At block at level Fresh
 resumed AtOutputs = AtOutputs
 resumed AtInputs = AtInputs
 resumed AtCycle = AtCycle
+resumed (AtStop code) = AtStop code
 resumed Over = Over
 
 abbrev pub with_inputs : Memory → List ℕ → Memory
 with_inputs memory image = record memory { inputs = image }
 
--- the end of OB1 leads to the end of the cycle, with the status bits that it began over
+-- the end of OB1 leads to the end of the cycle, with the registers that it began over
 abbrev pub cycle_frame : Frame
-cycle_frame = record { place = AtCycle; kept = clear_status }
+cycle_frame = record { place = AtCycle; kept = clear_registers }
 
 -- OB1 begins over the input image that was answered
 abbrev pub begins_main : Memory → List ℕ → Move
 begins_main memory image =
-    Calls (with_status (with_inputs memory image) clear_status) (At main_block 0 (level_of 1) Fresh) cycle_frame
+    Calls (with_registers (with_inputs memory image) clear_registers) (At main_block 0 (level_of 1) Fresh) cycle_frame
+
+-- a statement that asked for the moment is completed by it, or fails
+abbrev pub timed_outcome : BlockRef → ℕ → Level → Memory → Result Memory ℕ → Reaction
+timed_outcome block at level memory (Ok after) = Completes None (Goes after (At block (at + 1) level Fresh))
+timed_outcome block at level memory (Err error) = Completes (Some (notes.Error error)) (Goes memory (AtStop stops.NoOb121))
+
+abbrev pub timed_by : BlockRef → ℕ → Level → Mode → Memory → ℕ → Option Instruction → Reaction
+timed_by block at level mode memory moment (Some (Timed op n)) = timed_outcome block at level memory (effect_timed op n moment memory)
+timed_by block at level mode memory moment _ = Again None (Goes memory (At block at level mode))
+
+-- the instruction of a place
+abbrev pub instruction_if : Option Statement → Option Instruction
+instruction_if None = None
+instruction_if (Some statement) = instruction_of statement
+
+abbrev pub instruction_at : Program → BlockRef → ℕ → Option Instruction
+instruction_at program block at = instruction_if (slice_get (statements_of program block) at)
+
+-- the moment is answered
+abbrev pub timed_at : Program → Memory → Place → ℕ → Reaction
+timed_at program memory (At block at level mode) moment = timed_by block at level mode memory moment (instruction_at program block at)
+timed_at program memory AtOutputs moment = Again None (Goes memory AtOutputs)
+timed_at program memory AtInputs moment = Again None (Goes memory AtInputs)
+timed_at program memory AtCycle moment = Again None (Goes memory AtCycle)
+timed_at program memory (AtStop code) moment = Again None (Goes memory (AtStop code))
+timed_at program memory Over moment = Again None (Goes memory Over)
 
 -- alarms and jobs are not answered yet
 abbrev pub is_built : Answer → Bool
@@ -151,23 +216,25 @@ stops_cpu (asks.Stop code) answers.Done = true
 stops_cpu ask answer = false
 
 -- what an answer does at the place that asked
-abbrev pub answered : Memory → Place → Ask → Answer → Reaction
-answered memory place ask (answers.Lost side why) = Again (Some (lost_note side why)) (Goes memory (again place))
-answered memory place ask (answers.Back side) = Again (Some (notes.Back side)) (Goes memory (again place))
-answered memory place ask answers.Hold = Again None (Goes memory (again place))
-answered memory place ask (answers.CpuStop code) = Again (Some (notes.Stop code)) (Goes memory Over)
-answered memory place (asks.Outputs image) answers.Done = Again None (Goes memory AtInputs)
-answered memory place asks.Inputs (answers.Image image) = Again None (begins_main memory image)
-answered memory place asks.Cycle answers.Go = Again None (Goes memory AtOutputs)
-answered memory place asks.Tick answers.Done = Again None (Goes memory (resumed place))
-answered memory place _ _ = Again None (Goes memory place)
+abbrev pub answered : Program → Memory → Place → Ask → Answer → Reaction
+answered program memory place ask (answers.Lost side why) = Again (Some (lost_note side why)) (Goes memory (again ask place))
+answered program memory place ask (answers.Back side) = Again (Some (notes.Back side)) (Goes memory (again ask place))
+answered program memory place ask answers.Hold = Again None (Goes memory (again ask place))
+answered program memory place ask (answers.CpuStop code) = Again (Some (notes.Stop code)) (Goes memory Over)
+answered program memory place (asks.Outputs image) answers.Done = Again None (Goes memory AtInputs)
+answered program memory place asks.Inputs (answers.Image image) = Again None (begins_main memory image)
+answered program memory place asks.Cycle answers.Go = Again None (Goes memory AtOutputs)
+answered program memory place asks.Tick answers.Done = Again None (Goes memory (resumed place))
+answered program memory place asks.Now (answers.Now moment) = timed_at program memory place moment
+answered program memory place (asks.Stop code) answers.Done = Again (Some (notes.Stop code)) (Goes memory Over)
+answered program memory place _ _ = Again None (Goes memory place)
 
 -- the recursion --
 
--- a frame goes on, with the status bits that it kept
+-- a frame goes on, with the registers that it kept
 abbrev pub resume : Meaning → Frame → Rest → Rest
 resume meaning frame rest state given =
-    meaning frame.place rest (record state { memory = with_status state.memory frame.kept }) given
+    meaning frame.place rest (record state { memory = with_registers state.memory frame.kept }) given
 
 -- a call is the meaning of the called block, and then of what follows it
 abbrev pub moves : Meaning → Rest → State → List Answer → Move → End
@@ -193,17 +260,20 @@ took state = record state { since = 0; taken = state.taken + 1 }
 
 abbrev pub reacts : Meaning → Rest → State → List Answer → Reaction → End
 reacts meaning rest state given (Again note move) = moves meaning rest (noting state note) given move
+reacts meaning rest state given (Completes note move) = moves meaning rest (completed (noting state note)) given move
 
 -- a place asks
 abbrev pub asking : Meaning → Place → Request → Rest → State → List Answer → End
 asking meaning place request rest state [] = Waits request state
 asking meaning place request rest state (answer ∷ given) =
-    if takes request answer then reacts meaning rest (took state) given (answered state.memory place request.ask answer)
+    if takes request answer then reacts meaning rest (took state) given (answered state.program state.memory place request.ask answer)
     else Undefined
 
 abbrev pub does : Meaning → Place → Rest → State → List Answer → Turn → End
 does meaning place rest state given (Asks request) = asking meaning place request rest state given
 does meaning place rest state given (Moves move) = moves meaning rest (completed state) given move
+does meaning place rest state given (Halts note memory code) =
+    asking meaning (AtStop code) (stop_request code) rest (noting (record state { memory = memory }) (Some note)) given
 does meaning place rest state given Leaves = rest state given
 does meaning place rest state given Ends = Stopped state
 
@@ -228,10 +298,7 @@ body place rest state given = body_within (suc (left state given)) place rest st
 abbrev pub never : Rest
 never state given = Undefined
 
--- at the start the areas are 0 and the diagnostic entry START is made
-abbrev pub start_memory : Memory
-start_memory = record { inputs = replicate 64 0; outputs = replicate 64 0; flags = replicate 1024 0; status = clear_status }
-
+-- at the start the diagnostic entry START is made
 abbrev pub start_notes : List Note
 start_notes = record { moment = 0; code = notes.Start } ∷ []
 

@@ -13,11 +13,12 @@ use Rattle.mc_machine.specs.declared.areas.Memory.{Memory}
 use Rattle.mc_machine.specs.declared.places.Level.{Level}
 use Rattle.mc_machine.specs.declared.places.Mode.{Mode}
 use Rattle.mc_machine.specs.declared.places.Place.{Place}
-use Rattle.mc_machine.specs.declared.places.Place.TheVariants.{AtOutputs, AtInputs, AtCycle, Over, At}
+use Rattle.mc_machine.specs.declared.places.Place.TheVariants.{AtOutputs, AtInputs, AtCycle, AtStop, Over, At}
 use Rattle.mc_machine.specs.declared.places.Frame.{Frame}
 use Rattle.mc_machine.specs.declared.places.Note.{Note}
-use Rattle.mc_machine.specs.Effect.{with_status}
-use Rattle.mc_machine.specs.Meaning.{State, End, Waits, Stopped, Rest, Move, Goes, Calls, Reaction, Again, Turn, Asks, Moves, Leaves, Ends, resume, body, takes, stops_cpu, turn_of, never, std}
+use Rattle.mc_machine.specs.Areas.{with_registers}
+use Rattle.mc_machine.specs.CounterEffect.{counter_at}
+use Rattle.mc_machine.specs.Meaning.{State, End, Waits, Stopped, Rest, Move, Goes, Calls, Reaction, Again, Completes, Turn, Asks, Moves, Halts, Leaves, Ends, stop_request, resume, body, takes, stops_cpu, turn_of, never, std}
 
 -- where a machine is: its program, its place, the frames under it, what the statements see, the statements completed
 -- since the last answer, the moment of that answer, and the diagnostic entries that it keeps
@@ -66,12 +67,14 @@ IsMoved (Calls memory place frame) c since at note c' = c' ≡ record { program 
 -- the machine has taken an answer at this moment
 abbrev pub Reacts : Reaction → Config → ℕ → Config → Type 0
 Reacts (Again note move) c moment c' = IsMoved move c 0 moment note c'
+Reacts (Completes note move) c moment c' = IsMoved move c 1 moment note c'
 
 -- the machine has taken a turn, or asks
 abbrev pub Follows : Turn → Config → Option Request → Config → Type 0
 Follows (Asks request) c asked c' = (asked ≡ Some request) × (c' ≡ c)
 Follows (Moves move) c asked c' = (asked ≡ None) × IsMoved move c (c.since + 1) c.at None c'
-Follows Leaves c asked c' = (asked ≡ None) × (frame : Frame) × (c.frames ≡ c'.frames ++ frame ∷ []) × (c' ≡ record { program = c.program; place = frame.place; frames = c'.frames; memory = with_status c.memory frame.kept; since = c.since; at = c.at; diag = c.diag })
+Follows (Halts note memory code) c asked c' = (asked ≡ Some (stop_request code)) × (c' ≡ record { program = c.program; place = AtStop code; frames = c.frames; memory = memory; since = c.since; at = c.at; diag = with_newest c.diag c.at (Some note) })
+Follows Leaves c asked c' = (asked ≡ None) × (frame : Frame) × (c.frames ≡ c'.frames ++ frame ∷ []) × (c' ≡ record { program = c.program; place = frame.place; frames = c'.frames; memory = with_registers c.memory frame.kept; since = c.since; at = c.at; diag = c.diag })
 Follows Ends c asked c' = ⊥
 
 -- how many frames may lie under a place that runs: a block has one under it, that of the cycle
@@ -79,6 +82,7 @@ abbrev pub IsHigh : ℕ → Place → Type 0
 IsHigh n AtOutputs = n ≡ 0
 IsHigh n AtInputs = n ≡ 0
 IsHigh n AtCycle = n ≡ 0
+IsHigh n (AtStop code) = Unit {0}
 IsHigh n Over = ⊥
 IsHigh n (At block at level mode) = n ≡ 1
 
@@ -103,12 +107,12 @@ IsAskedAt place asks.Cycle = place ≡ AtCycle
 IsAskedAt place asks.Tick = (block : BlockRef) × (at : ℕ) × (level : Level) × (mode : Mode) × (place ≡ At block at level mode)
 IsAskedAt place (asks.ReadP addr width) = ⊥
 IsAskedAt place (asks.WriteP addr width value) = ⊥
-IsAskedAt place asks.Now = ⊥
+IsAskedAt place asks.Now = (block : BlockRef) × (at : ℕ) × (level : Level) × (mode : Mode) × (place ≡ At block at level mode)
 IsAskedAt place asks.Retrigger = ⊥
 IsAskedAt place (asks.Reply value) = ⊥
-IsAskedAt place (asks.Stop code) = ⊥
+IsAskedAt place (asks.Stop code) = place ≡ AtStop code
 
--- what is asked so far; direct access, timers, jobs and stops are not
+-- what is asked so far; direct access, the monitoring time and jobs are not
 abbrev pub IsAsked : Ask → Type 0
 IsAsked (asks.Outputs image) = Unit {0}
 IsAsked asks.Inputs = Unit {0}
@@ -116,10 +120,10 @@ IsAsked asks.Cycle = Unit {0}
 IsAsked asks.Tick = Unit {0}
 IsAsked (asks.ReadP addr width) = ⊥
 IsAsked (asks.WriteP addr width value) = ⊥
-IsAsked asks.Now = ⊥
+IsAsked asks.Now = Unit {0}
 IsAsked asks.Retrigger = ⊥
 IsAsked (asks.Reply value) = ⊥
-IsAsked (asks.Stop code) = ⊥
+IsAsked (asks.Stop code) = Unit {0}
 
 -- what stood for a program and answers stands for them still
 abbrev pub Keeps : Config → Config → Type 0
@@ -212,6 +216,11 @@ area_bytes memory Registers = []
 abbrev pub byte_of : Option Running → Area → ℕ → Option ℕ
 byte_of None area at_byte = None
 byte_of (Some running) area at_byte = slice_get (area_bytes running.config.memory area) at_byte
+
+-- the value of a counter
+abbrev pub counter_of : Option Running → ℕ → ℕ
+counter_of None n = 0
+counter_of (Some running) n = (counter_at running.config.memory n).value
 
 -- the areas have their sizes
 pub record HasSizes (memory : Memory) : Type 0 where

@@ -1,38 +1,43 @@
 //! What the statements see.
 ghost use Rattle.std.specs.Prelude.{◌≡◌};
-ghost use Rattle.mc_machine.specs.Effect.{clear_status};
-ghost use Rattle.mc_machine.specs.Meaning.{start_memory};
+ghost use Rattle.mc_machine.specs.Areas.{clear_registers, start_memory};
 
-/// The status bits: /FC (a first check has been made), the result of logic operation, STA and OR.
-#[derive(Clone, Copy, Debug, PartialEq, Eq, Default)]
-pub struct Status {
-    pub first_check: bool,
-    pub rlo: bool,
-    pub sta: bool,
-    pub or: bool,
+use accumulators::Accus;
+use bit_unit::BitUnit;
+use counters::Counter;
+use status_word::StatusWord;
+use timers::Timer;
+
+/// The registers of a block: the status word, the accumulators, and the open groups and zones.
+#[derive(Clone, Copy, Debug, Default)]
+pub struct Registers {
+    pub status: StatusWord,
+    pub accus: Accus,
+    pub unit: BitUnit,
 }
 
-impl Status {
-    /// The status bits where no block has begun.
-    pub(crate) fn clear() -> Status
-        ensures { result ≡ clear_status }
+impl Registers {
+    /// The registers where no block has begun.
+    pub(crate) fn clear() -> Registers
+        ensures { result ≡ clear_registers }
     {
-        Status {
-            first_check: false,
-            rlo: false,
-            sta: false,
-            or: false,
+        Registers {
+            status: StatusWord::new(),
+            accus: Accus::new(),
+            unit: BitUnit::new(),
         }
     }
 }
 
-/// The areas and the registers: the input image, the output image, bit memory and the status bits.
+/// The areas and the registers: the input image, the output image, bit memory, timers, counters and registers.
 #[derive(Debug, Drop)]
 pub struct Memory {
     pub inputs: [u8; 64],
     pub outputs: [u8; 64],
     pub flags: [u8; 1024],
-    pub status: Status,
+    pub timers: [Timer; 256],
+    pub counters: [Counter; 256],
+    pub registers: Registers,
 }
 
 impl Memory {
@@ -44,7 +49,9 @@ impl Memory {
             inputs: [0; 64],
             outputs: [0; 64],
             flags: [0; 1024],
-            status: Status::clear(),
+            timers: [Timer::new(); 256],
+            counters: [Counter::new(); 256],
+            registers: Registers::clear(),
         }
     }
 }

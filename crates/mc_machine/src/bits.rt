@@ -1,10 +1,13 @@
-//! The bit statements.
-ghost use Rattle.std.specs.Prelude.{◌≡◌, ◌<◌, ◌≤◌, length};
-ghost use Rattle.s7_base.specs.Instruction.{IsPlaced, HasOperand, last_byte};
-ghost use Rattle.mc_machine.specs.Effect.{bit_of, with_bit, bytes_of, with_bytes, operand, with_operand, after_and, after_or, after_write, bit_effect, effect};
+//! Statements on bits, on the status word, and brackets.
+ghost use Rattle.std.specs.Prelude.{◌≡◌, ◌<◌, ◌≤◌, not, ◌&&◌, OnOk, OnErr, IfErr};
+ghost use Rattle.mc_machine.specs.Areas.{bit_of, with_bit, bit_at, with_bit_at, is_off};
+ghost use Rattle.mc_machine.specs.Reading.{IsBitPlaced, HasBit, HasNumber};
+ghost use Rattle.mc_machine.specs.BitEffect.{with_bit_where, effect_bit, status_operand, effect_status, error_of, effect_group};
 
-use crate::{Memory, Status};
-use s7_base::{BitArea, BitInstruction, BitOperation, Instruction};
+use crate::instruction::{BitInstruction, BitPlace, ByteArea, GroupInstruction, StatusInstruction};
+use crate::{Memory, Registers};
+use bit_unit::BitFault;
+use status_word::StatusWord;
 
 fn bit_from(byte: u8, bit: u8) -> bool
     requires { bit < 8 }
@@ -25,108 +28,140 @@ fn byte_with(byte: u8, bit: u8, value: bool) -> u8
     }
 }
 
-impl Status {
-    /// `A` and `AN`.
-    fn check_and(&mut self, operand: bool, value: bool)
-        ensures { self.new ≡ after_and self.old operand value }
+impl Memory {
+    /// Whether a zone of the MCR is off.
+    pub(crate) fn is_off(&self) -> bool
+        ensures { result ≡ is_off self.now }
     {
-        let joined = if self.first_check {
-            self.rlo && value
-        } else {
-            value
-        };
-        self.rlo = joined || self.or;
-        self.sta = operand;
-        self.first_check = true;
+        self.registers.unit.zone_off()
     }
 
-    /// `O` and `ON`.
-    fn check_or(&mut self, operand: bool, value: bool)
-        ensures { self.new ≡ after_or self.old operand value }
+    fn read_bit(&self, place: BitPlace) -> bool
+        requires { IsBitPlaced place }
+        ensures { result ≡ bit_at self.now place }
     {
-        self.rlo = if self.first_check {
-            self.rlo || value
-        } else {
-            value
+        let at = place.at_byte as usize;
+        let byte = match place.area {
+            ByteArea::I => self.inputs[at],
+            ByteArea::Q => self.outputs[at],
+            ByteArea::M => self.flags[at],
         };
-        self.sta = operand;
-        self.or = false;
-        self.first_check = true;
+        bit_from(byte, place.bit)
     }
 
-    /// `=`, `S` and `R`.
-    fn end_check(&mut self)
-        ensures { self.new ≡ after_write self.old }
+    fn write_bit(&mut self, place: BitPlace, value: bool)
+        requires { IsBitPlaced place }
+        ensures { self.new ≡ with_bit_at self.old place value }
     {
-        self.sta = self.rlo;
-        self.or = false;
-        self.first_check = false;
+        let at = place.at_byte as usize;
+        match place.area {
+            ByteArea::I => self.inputs[at] = byte_with(self.inputs[at], place.bit, value),
+            ByteArea::Q => self.outputs[at] = byte_with(self.outputs[at], place.bit, value),
+            ByteArea::M => self.flags[at] = byte_with(self.flags[at], place.bit, value),
+        }
+    }
+
+    /// `S` and `R`: the bit is written at RLO 1, in no zone that is off.
+    fn write_bit_set(&mut self, place: BitPlace, value: bool)
+        requires { IsBitPlaced place }
+        ensures written { self.new ≡ with_bit_where (self.old.registers.status.rlo && not (is_off self.old)) self.old place value }
+        ensures registers { self.new.registers ≡ self.old.registers }
+    {
+        if self.registers.status.rlo && !self.is_off() {
+            self.write_bit(place, value);
+        }
+    }
+
+    /// A statement on a bit of an area.
+    pub(crate) fn execute_bit(&mut self, i: BitInstruction)
+        requires { HasBit i }
+        ensures { self.new ≡ effect_bit i self.old }
+    {
+        match i {
+            BitInstruction::Check(how, place) => {
+                let operand = self.read_bit(place);
+                self.registers.status.check(how, operand);
+            }
+            BitInstruction::Assign(place) => {
+                let value = self.registers.status.rlo && !self.is_off();
+                self.write_bit(place, value);
+                self.registers.status.after_write();
+            }
+            BitInstruction::Set(place) => {
+                self.write_bit_set(place, true);
+                self.registers.status.after_write();
+            }
+            BitInstruction::Reset(place) => {
+                self.write_bit_set(place, false);
+                self.registers.status.after_write();
+            }
+            BitInstruction::Edge(rising, place) => {
+                let old = self.read_bit(place);
+                let now = self.registers.status.edge(rising, old);
+                self.write_bit(place, now);
+            }
+        }
     }
 }
 
-impl Memory {
-    fn read_bit(&self, i: BitInstruction) -> bool
-        requires { IsPlaced i }
-        ensures { result ≡ operand self.now i }
+/// The status operand of a number.
+fn status_operand(status: &StatusWord, number: u8) -> bool
+    requires { number ≤ 9 }
+    ensures { result ≡ status_operand status.now number }
+{
+    status.operand(number)
+}
+
+/// A statement on the status word alone.
+pub(crate) fn execute_status(status: &mut StatusWord, i: StatusInstruction)
+    requires { HasNumber i }
+    ensures { status.new ≡ effect_status i status.old }
+{
+    match i {
+        StatusInstruction::Check(how, number) => {
+            let operand = status_operand(status, number);
+            status.check(how, operand);
+        }
+        StatusInstruction::OrAlone => status.or_alone(),
+        StatusInstruction::Invert => status.invert(),
+        StatusInstruction::SetRlo => status.set(),
+        StatusInstruction::ClearRlo => status.clear(),
+        StatusInstruction::SaveRlo => status.save(),
+    }
+}
+
+/// The number of the error of a bracket that is refused.
+fn error_of(fault: BitFault) -> u8
+    ensures { result ≡ error_of fault }
+{
+    match fault {
+        BitFault::NestingFull => 3,
+        BitFault::NestingEmpty => 4,
+        BitFault::McrFull => 5,
+        BitFault::McrEmpty => 6,
+    }
+}
+
+impl Registers {
+    /// A bracket, or the activation of the MCR.
+    ///
+    /// # Errors
+    /// The number of the error of a bracket that is refused. The registers are as before.
+    pub(crate) fn execute_group(&mut self, i: GroupInstruction) -> Result<(), u8>
+        ensures ok { OnOk result (effect_group i self.old ≡ Ok self.new) }
+        ensures err { IfErr result (λ error. effect_group i self.old ≡ Err error) }
+        ensures same { OnErr result (self.new ≡ self.old) }
     {
-        let at = i.at_byte as usize;
-        let byte = match i.area {
-            BitArea::I => self.inputs[at],
-            BitArea::Q => self.outputs[at],
-            BitArea::M => self.flags[at],
+        let done = match i {
+            GroupInstruction::Open(how) => self.unit.open_group(&mut self.status, how),
+            GroupInstruction::Close => self.unit.close_group(&mut self.status),
+            GroupInstruction::OpenZone => self.unit.open_mcr(&mut self.status),
+            GroupInstruction::CloseZone => self.unit.close_mcr(&mut self.status),
+            GroupInstruction::Activate(on) => {
+                self.unit.mcr_area(on);
+                Ok(())
+            }
         };
-        bit_from(byte, i.bit)
-    }
-
-    fn write_bit(&mut self, i: BitInstruction, value: bool)
-        requires { IsPlaced i }
-        ensures { self.new ≡ with_operand self.old i value }
-    {
-        let at = i.at_byte as usize;
-        match i.area {
-            BitArea::I => self.inputs[at] = byte_with(self.inputs[at], i.bit, value),
-            BitArea::Q => self.outputs[at] = byte_with(self.outputs[at], i.bit, value),
-            BitArea::M => self.flags[at] = byte_with(self.flags[at], i.bit, value),
-        }
-    }
-
-    fn execute_bit(&mut self, i: BitInstruction)
-        requires { IsPlaced i }
-        ensures { self.new ≡ bit_effect i.operation i self.old }
-    {
-        let operand = self.read_bit(i);
-        let rlo = self.status.rlo;
-        match i.operation {
-            BitOperation::And => self.status.check_and(operand, operand),
-            BitOperation::AndNot => self.status.check_and(operand, !operand),
-            BitOperation::Or => self.status.check_or(operand, operand),
-            BitOperation::OrNot => self.status.check_or(operand, !operand),
-            BitOperation::Assign => {
-                self.write_bit(i, rlo);
-                self.status.end_check();
-            }
-            BitOperation::Set => {
-                if rlo {
-                    self.write_bit(i, true);
-                }
-                self.status.end_check();
-            }
-            BitOperation::Reset => {
-                if rlo {
-                    self.write_bit(i, false);
-                }
-                self.status.end_check();
-            }
-        }
-    }
-
-    /// What a statement does.
-    pub(crate) fn execute(&mut self, instruction: Instruction)
-        requires { HasOperand instruction }
-        ensures { self.new ≡ effect instruction self.old }
-    {
-        match instruction {
-            Instruction::Bit(i) => self.execute_bit(i),
-        }
+        done.map_err(error_of)
     }
 }

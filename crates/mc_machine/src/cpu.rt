@@ -1,8 +1,8 @@
 //! The machine, whose inside its users do not see.
-ghost use Rattle.std.specs.Prelude.{◌≡◌, ℕ, ◌++◌, ◌∷◌, [], List, length, Option, Some, None, slice_get, false, IsTrue, OnOk, OnErr, ◌↔◌};
+ghost use Rattle.std.specs.Prelude.{◌≡◌, ◌≤◌, ℕ, ◌++◌, ◌∷◌, [], List, length, Option, Some, None, slice_get, false, IsTrue, OnOk, OnErr, ◌↔◌};
 ghost use Rattle.std.specs.Option.{option_map};
 ghost use Rattle.s7_base.specs.Blocks.{Program, IsPlayable};
-ghost use Rattle.mc_machine.specs.Stands.{IsIdle, IsRunning, CanAsk, CanTake, CanGoOn, IsAsked, HasStopped, WaitsAt, Stands, CpuWaits, CpuStopped, area_bytes, OfRunning, HasSizes, byte_of, notes_of};
+ghost use Rattle.mc_machine.specs.Stands.{IsIdle, IsRunning, CanAsk, CanTake, CanGoOn, IsAsked, HasStopped, WaitsAt, Stands, CpuWaits, CpuStopped, area_bytes, OfRunning, HasSizes, byte_of, counter_of, notes_of};
 
 use crate::engine::Engine;
 use crate::{Memory, Place};
@@ -135,12 +135,16 @@ impl Machine {
         }
     }
 
-    /// The value of a counter. None counts yet, so it is 0.
-    pub fn counter_value(&self, _n: u8) -> u16
+    /// The value of a counter, from 0 to 999.
+    pub fn counter_value(&self, n: u8) -> u16
         requires { IsRunning self.now }
-        ensures { result ≡ 0 }
+        ensures value { result ≡ counter_of self.now n }
+        ensures bound { result ≤ 999 }
     {
-        0
+        match &self.engine {
+            Some(engine) => engine.memory().counter(n).value(),
+            None => 0,
+        }
     }
 
     /// The number of bytes of a data block. None is loaded yet.

@@ -3,12 +3,14 @@ ghost use Rattle.std.specs.Prelude.{◌≡◌, ◌≢◌, ℕ, ◌+◌, ◌-◌,
 ghost use Rattle.s7_base.specs.Blocks.{Program};
 ghost use Rattle.s7_base.specs.declared.entry.Answer.{Answer};
 ghost use Rattle.s7_base.specs.declared.blocks.BlockRef.{BlockRef};
-ghost use Rattle.mc_machine.specs.Meaning.{statements_of, turn_of, runs, answered, takes, stops_cpu, begins_main, main_block, level_of, cycle_frame, lost_note, again, resumed, Leaves, Waits, Stopped, std, request_of};
+ghost use Rattle.mc_machine.specs.Meaning.{statements_of, turn_of, runs, flows, jump_among, answered, takes, stops_cpu, begins_main, main_block, level_of, cycle_frame, lost_note, again_mode, again, resumed, timed_at, instruction_at, Leaves, Waits, Stopped, std, request_of, stop_request};
 ghost use Rattle.mc_machine.specs.Stands.{Running, state_of, newest, with_newest, StandsFor, IsMoved, Reacts, Follows, IsHigh, IsSound, IsValid, IsAskedAt, AsksAt, Keeps, IsTaken, IsAsked, GoesOn};
-ghost use Rattle.mc_machine.specs.Effect.{effect_of};
+ghost use Rattle.s7_base.specs.declared.entry.Ask.{Ask};
 ghost use Rattle.mc_machine.specs.EngineView.{config_of, running_of};
 
-use crate::{Frame, Level, Memory, Mode, Note, Place, Status};
+use crate::instruction::{Flow, Instruction};
+use crate::reading::instruction;
+use crate::{Frame, Level, Memory, Mode, Note, Place, Registers};
 use arrayvec::ArrayVec;
 use s7_base::{
     Answer, Ask, BlockRef, Blocks, CodeKind, DiagCode, Loss, Request, Side, Statement, StopCode,
@@ -38,6 +40,9 @@ const MAIN: BlockRef = BlockRef {
     number: 1,
 };
 
+/// The priority of a request to stop.
+const STOP_PRIORITY: u8 = 30;
+
 /// The statement at a place of a block.
 fn statement_at(program: &Blocks, block: BlockRef, at: usize) -> Option<Statement>
     ensures found { result ≡ slice_get (statements_of program.now block) at }
@@ -47,6 +52,34 @@ fn statement_at(program: &Blocks, block: BlockRef, at: usize) -> Option<Statemen
         Some(code) => code.statements().get(at).copied(),
         None => None,
     }
+}
+
+/// The instruction at a place of a block.
+fn instruction_in(program: &Blocks, block: BlockRef, at: usize) -> Option<Instruction>
+    ensures found { result ≡ instruction_at program.now block at }
+    ensures within { OnSome result (at + 1 < 2 ^ 64) }
+{
+    let statement = statement_at(program, block, at)?;
+    instruction(&statement)
+}
+
+/// The number of statements of a block, the place of its end.
+fn end_of(program: &Blocks, block: BlockRef) -> usize
+    ensures { result ≡ length (statements_of program.now block) }
+{
+    match program.code(block.kind, block.number) {
+        Some(code) => code.statements().len(),
+        None => 0,
+    }
+}
+
+/// The jump of a number of those that follow a place, or past the last of them the target.
+fn jump_among(at: usize, number: u8, target: u32) -> usize
+    requires { at + 1 < 2 ^ 64 }
+    ensures { result ≡ jump_among at number target }
+{
+    let chosen = (at + 1).saturating_add(number as usize);
+    chosen.min(target as usize)
 }
 
 fn lost_code(side: Side, why: Loss) -> DiagCode
@@ -62,6 +95,23 @@ fn request(ask: Ask, prio: u8) -> Request
     ensures { result ≡ request_of ask prio }
 {
     Request { prio, ask }
+}
+
+fn stop_request(code: StopCode) -> Request
+    ensures { result ≡ stop_request code }
+{
+    request(Ask::Stop(code), STOP_PRIORITY)
+}
+
+/// How a block makes a request again.
+fn again_mode(ask: &Ask, mode: Mode) -> Mode
+    ensures { result ≡ again_mode ask.now mode }
+{
+    match ask {
+        Ask::Tick => Mode::Ticking,
+        Ask::Now => Mode::Timing,
+        _ => mode,
+    }
 }
 
 impl Engine {
@@ -167,36 +217,38 @@ impl Engine {
         requires asked { IsAskedAt self.old.place request.ask }
         requires fits { IsTrue (takes request answer.now) }
         requires fresh { self.old.since ≡ 0 }
-        ensures reacts { Reacts (answered self.old.memory self.old.place request.ask answer.now) (config_of self.old) self.old.at (config_of self.new) }
+        ensures reacts { Reacts (answered self.old.program self.old.memory self.old.place request.ask answer.now) (config_of self.old) self.old.at (config_of self.new) }
         ensures sound { self.new.place ≢ Place.Over → IsSound (config_of self.new) }
         ensures going { stops_cpu request.ask answer.now ≡ false → self.new.place ≢ Place.Over }
         ensures waits { self.new.waits ≡ self.old.waits }
     {
         match (request.ask, answer) {
-            (_, Answer::Lost { side, why }) => self.repeat(Some(lost_code(*side, *why))),
-            (_, Answer::Back { side }) => self.repeat(Some(DiagCode::Back(*side))),
-            (_, Answer::Hold) => self.repeat(None),
+            (ask, Answer::Lost { side, why }) => self.repeat(&ask, Some(lost_code(*side, *why))),
+            (ask, Answer::Back { side }) => self.repeat(&ask, Some(DiagCode::Back(*side))),
+            (ask, Answer::Hold) => self.repeat(&ask, None),
             (_, Answer::CpuStop(code)) => self.end(*code),
             (Ask::Outputs(_), Answer::Done) => self.place = Place::AtInputs,
             (Ask::Inputs, Answer::Image(image)) => self.begin_main(*image),
             (Ask::Cycle, Answer::Go) => self.place = Place::AtOutputs,
             (Ask::Tick, Answer::Done) => self.resume_block(),
+            (Ask::Now, Answer::Now(moment)) => self.time(*moment),
+            (Ask::Stop(code), Answer::Done) => self.end(code),
             _ => {}
         }
     }
 
     /// The request is made again, perhaps behind a diagnostic entry.
-    fn repeat(&mut self, code: Option<DiagCode>)
+    fn repeat(&mut self, ask: &Ask, code: Option<DiagCode>)
         requires sound { IsSound (config_of self.old) }
-        ensures repeated { config_of self.new ≡ record (config_of self.old) { place = again self.old.place; diag = with_newest self.old.diag.items self.old.at code } }
+        ensures repeated { config_of self.new ≡ record (config_of self.old) { place = again ask.now self.old.place; diag = with_newest self.old.diag.items self.old.at code } }
         ensures sound { IsSound (config_of self.new) }
         ensures waits { self.new.waits ≡ self.old.waits }
     {
         if let Some(code) = code {
             self.note(code);
         }
-        if let Place::At(block, at, level, _) = self.place {
-            self.place = Place::At(block, at, level, Mode::Ticking);
+        if let Place::At(block, at, level, mode) = self.place {
+            self.place = Place::At(block, at, level, again_mode(ask, mode));
         }
     }
 
@@ -210,6 +262,32 @@ impl Engine {
         if let Place::At(block, at, level, _) = self.place {
             self.place = Place::At(block, at, level, Mode::Fresh);
         }
+    }
+
+    /// The statement that asked for the moment is completed by it, or fails.
+    fn time(&mut self, moment: u64)
+        requires sound { IsSound (config_of self.old) }
+        requires going { self.old.place ≢ Place.Over }
+        requires fresh { self.old.since ≡ 0 }
+        ensures timed { Reacts (timed_at self.old.program self.old.memory self.old.place moment) (config_of self.old) self.old.at (config_of self.new) }
+        ensures sound { IsSound (config_of self.new) }
+        ensures going { self.new.place ≢ Place.Over }
+        ensures waits { self.new.waits ≡ self.old.waits }
+    {
+        let Place::At(block, at, level, _) = self.place else {
+            return;
+        };
+        let Some(Instruction::Timed(op, n)) = instruction_in(&self.program, block, at) else {
+            return;
+        };
+        match self.memory.execute_timed(op, n, moment) {
+            Ok(()) => self.place = Place::At(block, at + 1, level, Mode::Fresh),
+            Err(error) => {
+                self.note(DiagCode::Error(error));
+                self.place = Place::AtStop(StopCode::NoOb121);
+            }
+        }
+        self.since = 1;
     }
 
     /// The CPU stops.
@@ -244,10 +322,10 @@ impl Engine {
         ensures waits { self.new.waits ≡ self.old.waits }
     {
         self.memory.inputs = image;
-        self.memory.status = Status::clear();
+        self.memory.registers = Registers::clear();
         self.frames.push(Frame {
             place: Place::AtCycle,
-            kept: Status::clear(),
+            kept: Registers::clear(),
         });
         self.place = Place::At(MAIN, 0, Level { priority: 1 }, Mode::Fresh);
     }
@@ -262,7 +340,9 @@ impl Engine {
             Place::AtOutputs => Some(request(Ask::Outputs(self.memory.outputs), 1)),
             Place::AtInputs => Some(request(Ask::Inputs, 1)),
             Place::AtCycle => Some(request(Ask::Cycle, 1)),
+            Place::AtStop(code) => Some(stop_request(code)),
             Place::Over => unreachable!(),
+            Place::At(_, _, level, Mode::Timing) => Some(request(Ask::Now, level.priority)),
             Place::At(_, _, level, Mode::Ticking) => Some(request(Ask::Tick, level.priority)),
             Place::At(block, at, level, Mode::Fresh) => self.run(block, at, level),
         }
@@ -282,12 +362,42 @@ impl Engine {
         if self.since >= 256 {
             return Some(request(Ask::Tick, level.priority));
         }
-        if let Some(instruction) = statement.instruction() {
-            self.memory.execute(instruction);
-        }
-        self.place = Place::At(block, at + 1, level, Mode::Fresh);
+        let flow = self.memory.perform(&statement);
+        self.follow(block, at, level, flow)
+    }
+
+    /// Goes where a statement leads.
+    fn follow(&mut self, block: BlockRef, at: usize, level: Level, flow: Flow) -> Option<Request>
+        requires sound { IsSound (config_of self.old) }
+        requires here { self.old.place ≡ Place.At block at level Mode.Fresh }
+        requires before { self.old.since < 256 }
+        requires within { at + 1 < 2 ^ 64 }
+        ensures turned { Follows (flows self.old.program block at level self.old.memory flow) (config_of self.old) result (config_of self.new) }
+        ensures sound { IsSound (config_of self.new) }
+    {
+        let next = match flow {
+            Flow::Next => at + 1,
+            Flow::Jump(target) => target as usize,
+            Flow::Among { number, target } => jump_among(at, number, target),
+            Flow::End => end_of(&self.program, block),
+            Flow::Fail(error) => return Some(self.fail(error)),
+            Flow::AskNow => return Some(request(Ask::Now, level.priority)),
+        };
+        self.place = Place::At(block, next, level, Mode::Fresh);
         self.since += 1;
         None
+    }
+
+    /// An error finds no OB121: the CPU asks to stop.
+    fn fail(&mut self, error: u8) -> Request
+        requires { IsSound (config_of self.old) }
+        ensures halted { config_of self.new ≡ record (config_of self.old) { place = Place.AtStop StopCode.NoOb121; diag = with_newest self.old.diag.items self.old.at (Some (DiagCode.Error error)) } }
+        ensures asks { result ≡ stop_request StopCode.NoOb121 }
+        ensures sound { IsSound (config_of self.new) }
+    {
+        self.note(DiagCode::Error(error));
+        self.place = Place::AtStop(StopCode::NoOb121);
+        stop_request(StopCode::NoOb121)
     }
 
     /// The end of a block: the frame under it goes on.
@@ -301,6 +411,6 @@ impl Engine {
             unreachable!()
         };
         self.place = frame.place;
-        self.memory.status = frame.kept;
+        self.memory.registers = frame.kept;
     }
 }

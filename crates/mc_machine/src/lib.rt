@@ -3,12 +3,25 @@
 
 mod areas;
 mod bits;
+mod clocks;
+mod counting;
 mod cpu;
 mod engine;
+mod execute;
+mod instruction;
+mod jumps;
+mod moves;
+mod numbers;
 mod places;
+mod reading;
 
-pub use areas::{Memory, Status};
+pub use areas::{Memory, Registers};
 pub use cpu::Machine;
+pub use instruction::{
+    AccuInstruction, BitInstruction, BitPlace, ByteArea, CounterOperation, Flow, GroupInstruction,
+    Instruction, JumpInstruction, MoveInstruction, NumberInstruction, StatusInstruction,
+    TimedOperation, TimerOperation, ValuePlace, Width, WordInstruction,
+};
 pub use places::{Frame, Level, Mode, Note, Place};
 
 #[cfg(test)]

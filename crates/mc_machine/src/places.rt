@@ -1,7 +1,7 @@
 //! Where a CPU stands.
 
-use crate::Status;
-use s7_base::{BlockRef, DiagCode};
+use crate::Registers;
+use s7_base::{BlockRef, DiagCode, StopCode};
 
 /// The level that a block runs on.
 #[derive(Clone, Copy, Debug, PartialEq, Eq)]
@@ -14,6 +14,7 @@ pub struct Level {
 pub enum Mode {
     Fresh,
     Ticking,
+    Timing,
 }
 
 /// Where a CPU stands.
@@ -26,17 +27,19 @@ pub enum Place {
     AtInputs,
     /// At the end of a cycle.
     AtCycle,
+    /// Where it asks to stop.
+    AtStop(StopCode),
     /// It has stopped.
     Over,
     /// At a statement of a block, counted from 0.
     At(BlockRef, usize, Level, Mode),
 }
 
-/// Where a CPU goes on when a block ends, and the status bits that come back.
-#[derive(Clone, Copy, Debug, PartialEq, Eq, Default)]
+/// Where a CPU goes on when a block ends, and the registers that come back.
+#[derive(Clone, Copy, Debug, Default)]
 pub struct Frame {
     pub place: Place,
-    pub kept: Status,
+    pub kept: Registers,
 }
 
 /// A diagnostic entry, with its moment in milliseconds.

@@ -1,4 +1,4 @@
--- The bit statements that are played are of the language, and none of them jumps.
+-- The bit statements on inputs, outputs and bit memory are of the language, they are played, and none of them jumps.
 use Rattle.std.proofs.Common.{◌≡◌, ℕ, ◌+◌, ◌≤◌, true, false, List, [], ◌∷◌, refl, arith}
 use Rattle.std.specs.Prelude.{map}
 use Rattle.std.proofs.lemmas.Bool.{le-leb}
@@ -13,6 +13,7 @@ use Rattle.s7_base.specs.Instruction.{area_number, operation_number, last_byte, 
 use Rattle.s7_base.specs.Rows.{row_of}
 use Rattle.s7_base.specs.Operands.{is_bit, is_in}
 use Rattle.s7_base.specs.Statements.{is_statement, all_land}
+use Rattle.s7_base.specs.Blocks.{is_elsewhere, is_call_row, is_played}
 
 abbrev stored : BitOperation → BitArea → ℕ → ℕ → Statement
 stored operation area at bit = record { op = operation_number operation; area = area_number area; bit = bit; db = 0; value = at }
@@ -51,3 +52,21 @@ no_target operation M at bit = refl
 pub bits_land : (at : ℕ) (is : List BitInstruction) → all_land at (map bit_statement is) ≡ true
 bits_land at [] = refl
 bits_land at (i ∷ is) = rw (no_target i.operation i.area i.at_byte i.bit, bits_land (at + 1) is) refl
+
+is_here : (operation : BitOperation) (area : BitArea) (at bit : ℕ) → is_elsewhere (stored operation area at bit) ≡ false
+is_here operation I at bit = refl
+is_here operation Q at bit = refl
+is_here operation M at bit = refl
+
+no_call : (operation : BitOperation) → is_call_row (row_of (operation_number operation)) ≡ false
+unfolding row_of
+no_call And = refl
+no_call AndNot = refl
+no_call Or = refl
+no_call OrNot = refl
+no_call Assign = refl
+no_call Set = refl
+no_call Reset = refl
+
+pub bit_is_played : (i : BitInstruction) → is_played (bit_statement i) ≡ true
+bit_is_played i = rw (is_here i.operation i.area i.at_byte i.bit, no_call i.operation) refl

@@ -11,6 +11,7 @@ mod jumps;
 mod limits;
 mod operands;
 mod operation;
+mod playable;
 mod priorities;
 mod statement;
 mod table;

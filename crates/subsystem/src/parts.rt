@@ -1,10 +1,10 @@
 //! One side of the pair.
-ghost use Rattle.std.specs.Prelude.{◌≡◌, ◌<◌, ◌+◌, ◌^◌, ◌∷◌, [], ◌++◌, ◌↔◌, ℕ, false, List, length, slice_get, None, OnOk, OnErr, IfOk, IsTrue};
+ghost use Rattle.std.specs.Prelude.{◌≡◌, ◌<◌, ◌≤◌, ◌+◌, ◌^◌, ◌∷◌, [], ◌++◌, ◌↔◌, ℕ, false, List, length, slice_get, None, OnOk, OnErr, IfOk, IsTrue};
 ghost use Rattle.std.specs.Option.{option_map};
 ghost use Rattle.s7_base.specs.Blocks.{Program, IsPlayable};
 ghost use Rattle.s7_base.specs.declared.entry.Answer.{Answer};
 ghost use Rattle.s7_base.specs.declared.entry.Request.{Request};
-ghost use Rattle.mc_machine.specs.Stands.{CanAsk, CanTake, CanGoOn, IsAsked, IsIdle, WaitsAt, Stands, CpuWaits, CpuStopped, OfRunning, HasSizes, byte_of, notes_of};
+ghost use Rattle.mc_machine.specs.Stands.{CanAsk, CanTake, CanGoOn, IsAsked, IsIdle, WaitsAt, Stands, CpuWaits, CpuStopped, OfRunning, HasSizes, byte_of, counter_of, notes_of};
 ghost use Rattle.subsystem.specs.Part.{IsNew, IsOpen, first_life, TookOne};
 
 use mc_machine::Machine;
@@ -179,10 +179,11 @@ impl Subsystem {
         self.machine.note_count()
     }
 
-    /// The value of a counter. None counts yet, so it is 0.
+    /// The value of a counter, from 0 to 999.
     pub fn counter_value(&self, n: u8) -> u16
         requires { IsOpen self.now }
-        ensures { result ≡ 0 }
+        ensures value { result ≡ counter_of self.now.machine n }
+        ensures bound { result ≤ 999 }
     {
         self.machine.counter_value(n)
     }

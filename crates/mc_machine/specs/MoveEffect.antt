@@ -1,0 +1,33 @@
+-- What loads, transfers and the moves between accumulators do.
+use Rattle.std.specs.Prelude.{ℕ, ◌%◌, ◌^◌, if◌then◌else◌}
+use Rattle.status_word.specs.Status.{bits_of, status_of}
+use Rattle.accumulators.specs.declared.accus.Accus.{Accus}
+use Rattle.accumulators.specs.Moves.{loaded, moved, constant_added, byte_counted}
+use Rattle.mc_machine.specs.declared.areas.Memory.{Memory}
+use Rattle.mc_machine.specs.declared.instruction.MoveInstruction.{MoveInstruction}
+use Rattle.mc_machine.specs.declared.instruction.MoveInstruction.TheVariants.{Load, LoadConstant, LoadStatus, Store, StoreStatus}
+use Rattle.mc_machine.specs.declared.instruction.AccuInstruction.{AccuInstruction}
+use Rattle.mc_machine.specs.declared.instruction.AccuInstruction.TheVariants as accus
+use Rattle.mc_machine.specs.Areas.{value_at, with_value_at, with_accus, with_status, is_off}
+
+-- L of a value
+abbrev pub with_loaded : Memory → ℕ → Memory
+with_loaded memory value = with_accus memory (loaded value memory.registers.accus)
+
+-- what T writes: ACCU1, and 0 in a zone that is off
+abbrev pub transferred : Memory → ℕ
+transferred memory = if is_off memory then 0 else memory.registers.accus.accu1
+
+-- L and T
+abbrev pub effect_move : MoveInstruction → Memory → Memory
+effect_move (Load place) memory = with_loaded memory (value_at memory place)
+effect_move (LoadConstant value) memory = with_loaded memory value
+effect_move LoadStatus memory = with_loaded memory (bits_of memory.registers.status)
+effect_move (Store place) memory = with_value_at memory place (transferred memory)
+effect_move StoreStatus memory = with_status memory (status_of (transferred memory % 2 ^ 9))
+
+-- the statements on accumulators that leave the status word
+abbrev pub effect_accu : AccuInstruction → Accus → Accus
+effect_accu (accus.Move op) a = moved op a
+effect_accu (accus.Count by down) a = byte_counted by down a
+effect_accu (accus.Add value wide) a = constant_added value wide a

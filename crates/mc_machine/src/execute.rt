@@ -1,0 +1,63 @@
+//! What a statement does.
+ghost use Rattle.std.specs.Prelude.{◌≡◌, OnOk, IfErr};
+ghost use Rattle.mc_machine.specs.Reading.{HasOperand};
+ghost use Rattle.mc_machine.specs.Effect.{effect, effect_of};
+
+use crate::Memory;
+use crate::bits::execute_status;
+use crate::instruction::{Flow, Instruction};
+use crate::moves::execute_accu;
+use crate::reading::instruction;
+use s7_base::Statement;
+
+/// The next statement follows, or the error of one that failed.
+fn flow_of(done: Result<(), u8>) -> Flow
+    ensures ok { OnOk done (result ≡ Flow.Next) }
+    ensures err { IfErr done (λ error. result ≡ Flow.Fail error) }
+{
+    match done {
+        Ok(()) => Flow::Next,
+        Err(error) => Flow::Fail(error),
+    }
+}
+
+impl Memory {
+    /// What an instruction does.
+    fn execute(&mut self, i: Instruction) -> Flow
+        requires { HasOperand i }
+        ensures effect { effect i self.old ≡ (self.new, result) }
+        ensures asks { result ≡ Flow.AskNow → self.new ≡ self.old }
+    {
+        match i {
+            Instruction::Bit(i) => self.execute_bit(i),
+            Instruction::Status(i) => execute_status(&mut self.registers.status, i),
+            Instruction::Group(i) => return flow_of(self.registers.execute_group(i)),
+            Instruction::Move(i) => self.execute_move(i),
+            Instruction::Accu(i) => execute_accu(&mut self.registers.accus, i),
+            Instruction::Number(i) => return flow_of(self.registers.execute_number(i)),
+            Instruction::Word(i) => self.registers.execute_word(i),
+            Instruction::Jump(i) => return self.registers.execute_jump(i),
+            Instruction::Timer(op, n) => self.execute_timer(op, n),
+            Instruction::Timed(_, _) => return Flow::AskNow,
+            Instruction::Counter(op, n) => return flow_of(self.execute_counter(op, n)),
+            Instruction::End => {
+                self.registers.status.after_block();
+                return Flow::End;
+            }
+            Instruction::EndWhenSet => return self.registers.execute_end_when_set(),
+            Instruction::Nothing => {}
+        }
+        Flow::Next
+    }
+
+    /// What a statement does.
+    pub(crate) fn perform(&mut self, statement: &Statement) -> Flow
+        ensures effect { effect_of statement.now self.old ≡ (self.new, result) }
+        ensures asks { result ≡ Flow.AskNow → self.new ≡ self.old }
+    {
+        match instruction(statement) {
+            Some(i) => self.execute(i),
+            None => Flow::Next,
+        }
+    }
+}

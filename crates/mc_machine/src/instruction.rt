@@ -1,0 +1,235 @@
+//! What a statement means: instructions, by groups.
+
+use accumulators::{Move, Num, Shift, Word};
+use status_word::{Check, Cmp, Jump};
+use timers::TimerKind;
+
+/// An area of bytes that statements address.
+#[derive(Clone, Copy, Debug, PartialEq, Eq)]
+pub enum ByteArea {
+    /// The input image, bytes 0 to 63.
+    I,
+    /// The output image, bytes 0 to 63.
+    Q,
+    /// Bit memory, bytes 0 to 1,023.
+    M,
+}
+
+/// A bit of an area: the byte lies in the area, and the bit is 0 to 7.
+#[derive(Clone, Copy, Debug, PartialEq, Eq)]
+pub struct BitPlace {
+    pub area: ByteArea,
+    pub at_byte: u16,
+    pub bit: u8,
+}
+
+/// How wide a value is: one, two or four bytes.
+#[derive(Clone, Copy, Debug, PartialEq, Eq)]
+pub enum Width {
+    Byte,
+    Word,
+    Double,
+}
+
+/// A value of an area, by its first byte; all its bytes lie in the area.
+#[derive(Clone, Copy, Debug, PartialEq, Eq)]
+pub struct ValuePlace {
+    pub area: ByteArea,
+    pub at_byte: u16,
+    pub width: Width,
+}
+
+/// Statements on a bit of an area.
+#[derive(Clone, Copy, Debug, PartialEq, Eq)]
+pub enum BitInstruction {
+    /// `A AN O ON X XN`
+    Check(Check, BitPlace),
+    /// `=`
+    Assign(BitPlace),
+    /// `S`
+    Set(BitPlace),
+    /// `R`
+    Reset(BitPlace),
+    /// `FP` where it rises, else `FN`
+    Edge(bool, BitPlace),
+}
+
+/// Statements on the status word alone.
+#[derive(Clone, Copy, Debug, PartialEq, Eq)]
+pub enum StatusInstruction {
+    /// `A AN O ON X XN` with the status operand of this number, 0 to 9
+    Check(Check, u8),
+    /// `O` alone
+    OrAlone,
+    /// `NOT`
+    Invert,
+    /// `SET`
+    SetRlo,
+    /// `CLR`
+    ClearRlo,
+    /// `SAVE`
+    SaveRlo,
+}
+
+/// Brackets of logic, and the master control relay (MCR).
+#[derive(Clone, Copy, Debug, PartialEq, Eq)]
+pub enum GroupInstruction {
+    /// `A( AN( O( ON( X( XN(`
+    Open(Check),
+    /// `)`
+    Close,
+    /// `MCR(`
+    OpenZone,
+    /// `)MCR`
+    CloseZone,
+    /// `MCRA` where it is to be active, else `MCRD`
+    Activate(bool),
+}
+
+/// Loads and transfers.
+#[derive(Clone, Copy, Debug, PartialEq, Eq)]
+pub enum MoveInstruction {
+    /// `L` of a value of an area
+    Load(ValuePlace),
+    /// `L` of a constant
+    LoadConstant(u32),
+    /// `L STW`
+    LoadStatus,
+    /// `T` to a value of an area
+    Store(ValuePlace),
+    /// `T STW`
+    StoreStatus,
+}
+
+/// Statements that move or change accumulators and leave the status word.
+#[derive(Clone, Copy, Debug, PartialEq, Eq)]
+pub enum AccuInstruction {
+    /// `PUSH POP ENT LEAVE TAK CAW CAD INVI INVD ITD`
+    Move(Move),
+    /// `INC`, or `DEC` where it counts down
+    Count { by: u8, down: bool },
+    /// `+` with a constant of 16, or where it is wide of 32 bits
+    Add { value: i32, wide: bool },
+}
+
+/// Statements on numbers.
+#[derive(Clone, Copy, Debug, PartialEq, Eq)]
+pub enum NumberInstruction {
+    /// `+I -I *I /I +D -D *D /D MOD NEGI NEGD`
+    Work(Num),
+    /// `BTI`, or where it is wide `BTD`
+    FromBcd(bool),
+    /// `ITB`, or where it is wide `DTB`
+    ToBcd(bool),
+    /// `==I` and the like, or where it is wide `==D` and the like
+    Compare(Cmp, bool),
+}
+
+/// Logic and shifts of words.
+#[derive(Clone, Copy, Debug, PartialEq, Eq)]
+pub enum WordInstruction {
+    /// `AW OW XOW`, or where it is wide `AD OD XOD`: with a constant, or with ACCU2
+    Logic {
+        op: Word,
+        wide: bool,
+        constant: Option<u32>,
+    },
+    /// `SSI SLW SRW SSD SLD SRD RLD RRD`: by a count, or by that in ACCU2
+    Shift(Shift, Option<u8>),
+}
+
+/// Jumps, each with the number of its target.
+#[derive(Clone, Copy, Debug, PartialEq, Eq)]
+pub enum JumpInstruction {
+    /// A jump that the status word decides
+    When(Jump, u32),
+    /// `JL`
+    List(u32),
+    /// `LOOP`
+    Loop(u32),
+}
+
+/// What is done to a timer apart from its moment.
+#[derive(Clone, Copy, Debug, PartialEq, Eq)]
+pub enum TimerOperation {
+    /// `R`
+    Reset,
+    /// `FR`
+    Enable,
+}
+
+/// What is done to a timer at a moment, which is asked for.
+#[derive(Clone, Copy, Debug, PartialEq, Eq)]
+pub enum TimedOperation {
+    /// `SP SE SD SS SF`
+    Start(TimerKind),
+    /// `A AN O ON X XN`
+    Check(Check),
+    /// `L`
+    Load,
+    /// `LC`
+    LoadCoded,
+}
+
+/// What is done to a counter.
+#[derive(Clone, Copy, Debug, PartialEq, Eq)]
+pub enum CounterOperation {
+    /// `CU`
+    Up,
+    /// `CD`
+    Down,
+    /// `S`
+    Set,
+    /// `R`
+    Reset,
+    /// `FR`
+    Enable,
+    /// `A AN O ON X XN`
+    Check(Check),
+    /// `L`
+    Load,
+    /// `LC`
+    LoadCoded,
+}
+
+/// What a statement means.
+#[derive(Clone, Copy, Debug, PartialEq, Eq)]
+pub enum Instruction {
+    Bit(BitInstruction),
+    Status(StatusInstruction),
+    Group(GroupInstruction),
+    Move(MoveInstruction),
+    Accu(AccuInstruction),
+    Number(NumberInstruction),
+    Word(WordInstruction),
+    Jump(JumpInstruction),
+    /// A timer of this number.
+    Timer(TimerOperation, u8),
+    /// A timer of this number, at a moment.
+    Timed(TimedOperation, u8),
+    /// A counter of this number.
+    Counter(CounterOperation, u8),
+    /// `BE` and `BEU`
+    End,
+    /// `BEC`
+    EndWhenSet,
+    /// `NOP` and `BLD`
+    Nothing,
+}
+
+/// Where a statement leads.
+#[derive(Clone, Copy, Debug, PartialEq, Eq)]
+pub enum Flow {
+    /// To the next statement.
+    Next,
+    /// To the statement of this number.
+    Jump(u32),
+    /// To the jump of this number, from 0, of those that follow, or past the last of them to the target.
+    Among { number: u8, target: u32 },
+    /// To the end of the block.
+    End,
+    /// To the error of this number; the statement changed nothing.
+    Fail(u8),
+    /// It asks for the moment first.
+    AskNow,
+}
