@@ -1,5 +1,5 @@
 //! Statements on counters.
-ghost use Rattle.std.specs.Prelude.{◌≡◌, OnOk, OnErr, IfErr, Ok, Err};
+ghost use Rattle.std.specs.Prelude.{◌≡◌, length, OnOk, OnErr, IfErr, Ok, Err};
 ghost use Rattle.mc_machine.specs.CounterEffect.{counter_at, with_counter, effect_set, effect_counter};
 
 use crate::Memory;
@@ -12,7 +12,8 @@ const BAD_DIGIT: u8 = 1;
 
 impl Memory {
     pub(crate) fn counter(&self, n: u8) -> Counter
-        ensures { result ≡ counter_at self.now n }
+        ensures value { result ≡ counter_at self.now n }
+        ensures count { length self.now.counters ≡ 256 }
     {
         self.counters[n as usize]
     }

@@ -140,6 +140,7 @@ impl Machine {
         requires { IsRunning self.now }
         ensures value { result ≡ counter_of self.now n }
         ensures bound { result ≤ 999 }
+        ensures count { OfRunning self.now (λ running. length running.config.memory.counters ≡ 256) }
     {
         match &self.engine {
             Some(engine) => engine.memory().counter(n).value(),

@@ -8,6 +8,7 @@ use Rattle.s7_base.specs.declared.entry.Side.TheVariants.{A, B}
 use Rattle.s7_base.specs.declared.entry.StopCode.{StopCode}
 use Rattle.s7_base.specs.declared.entry.Entry.{Entry}
 use Rattle.plant_script.specs.Plan.{IsPlan}
+use Rattle.pair_core.specs.Monitor.{watch_of}
 use Rattle.pair_core.specs.declared.endings.Ended.{Ended}
 use Rattle.pair_core.specs.declared.turns.Act.{Act}
 use Rattle.pair_core.specs.declared.turns.Act.TheVariants.{Over, Dead, Take, Show, Mark, Unmarked, Behind, Append}
@@ -94,11 +95,11 @@ keeps_dead p w s good out =
 
 -- a side that runs was not lost
 runs_not_lost : (p : Setup) (l : Log) (s : Side) → GoodLog p l → runs (standing_in p l) s ≡ true → (j : ℕ) → lost_at l.entries s ≡ Some j → ⊥
-runs_not_lost p l s good run j h = (let out = lost_out p.plan s (first_standing p.solo) None 0 l.entries good.same.lawful j h in cc)
+runs_not_lost p l s good run j h = (let out = lost_out p.plan s (first_standing p.solo) None None 0 l.entries good.same.lawful j h in cc)
 
 -- a side that runs began by a load
 runs_loaded : (p : Setup) (w : World) (s : Side) → Fair p w → runs (standing_in p w.log) s ≡ true → (part w s).loaded ≡ true
-runs_loaded p w s good run = (good.sides s).loaded ∙ ran_first p.plan s (first_standing p.solo) None 0 w.log.entries good.log.same.lawful run
+runs_loaded p w s good run = (good.sides s).loaded ∙ ran_first p.plan s (first_standing p.solo) None None 0 w.log.entries good.log.same.lawful run
 
 keeps_take : (p : Setup) (w : World) (s : Side) → Fair p w → runs (standing_in p w.log) s ≡ true → is_down p w.log s ≡ false → (part w s).place < length w.log.entries → Keeps p w s Take
 keeps_take p w s good run up less =
@@ -234,7 +235,7 @@ module _ (p : Setup) (w : World) (s : Side) (e : Entry) (good : Fair p w) (next 
   -- who runs after the entry ran before it, and was not cut at it
   before : (t : Side) → runs (standing_in p (with_entry w.log e)) t ≡ true → (is_cut p.plan t (length w.log.entries) ≡ false) × (runs (standing_in p w.log) t ≡ true)
   before t r =
-      fresh_side p.plan (standing_in p w.log) (length w.log.entries) e.request.ask e.answer s t next.answer good.log.same.master run uncut
+      fresh_side p.plan (standing_in p w.log) (watch_of w.log.entries) (length w.log.entries) e.request.ask e.answer s t next.answer good.log.same.master run uncut
       (rw (standing_snoc (first_standing p.solo) w.log.entries e) at r)
 
   -- the visitor
@@ -261,7 +262,7 @@ module _ (p : Setup) (w : World) (s : Side) (e : Entry) (good : Fair p w) (next 
       → (lost_at w.log.entries t ≡ Some j) ⊎ ((length w.log.entries ≡ j) × (is_cut p.plan t (length w.log.entries) ≡ true) × (runs (standing_in p w.log) t ≡ true))
   lost_now t j (Some i) was b now h = inl (was ∙ h)
   lost_now t j None was true now h =
-      let cut = lost_was_cut p.plan (standing_in p w.log) (length w.log.entries) e.request.ask e.answer t next.answer now in
+      let cut = lost_was_cut p.plan (standing_in p w.log) (watch_of w.log.entries) (length w.log.entries) e.request.ask e.answer t next.answer now in
       let at_j : 0 + length w.log.entries ≡ j = cc in
       inr (omega arith, cut.0, cut.1)
   lost_now t j None was false now h = absurd cc

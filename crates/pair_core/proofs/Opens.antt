@@ -6,6 +6,7 @@ use Rattle.s7_base.specs.declared.entry.Entry.{Entry}
 use Rattle.s7_base.specs.declared.entry.Request.{Request}
 use Rattle.s7_base.specs.declared.entry.Answer.{Answer}
 use Rattle.mc_machine.specs.Meaning.{std, next_of}
+use Rattle.pair_core.specs.Monitor.{watch_of}
 use Rattle.pair_core.specs.Stops.{stop_of}
 use Rattle.pair_core.specs.Played.{answers_of}
 use Rattle.pair_core.specs.Turns.{answer_at}
@@ -44,7 +45,7 @@ going_at p l k h here = ap (λ n. stop_of (take n l.entries)) here ∙ (ap stop_
 
 -- the entry that comes next
 pub next_is : (p : Setup) (l : Log) (request : Request) (answer : Answer) → next_of (std p.program (answers_of l.entries)) ≡ Some request
-    → answer_at p.plan (standing_in p l) (length l.entries) request.ask ≡ Some answer → next_entry p l ≡ Some (record { request = request; answer = answer })
+    → answer_at p.plan (standing_in p l) (watch_of l.entries) (length l.entries) request.ask ≡ Some answer → next_entry p l ≡ Some (record { request = request; answer = answer })
 next_is p l request answer asks is = ap (entry_for p l) asks ∙ ap (entry_with request) is
 
 pub take_all : (es : List Entry) (k : ℕ) → k ≡ length es → take k es ≡ es

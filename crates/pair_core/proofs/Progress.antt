@@ -42,7 +42,7 @@ sole : (p : Setup) (w : World) → Good p w → p.solo ≡ true → IsSole (stan
 sole p w good solo =
     let first : runs (first_standing p.solo) B ≡ false = ap not solo in
     sole_by (standing_in p w.log) (standing_in p w.log).master refl good.log.same.master
-    (stays_out p.plan B (first_standing p.solo) None 0 w.log.entries good.log.same.lawful first)
+    (stays_out p.plan B (first_standing p.solo) None None 0 w.log.entries good.log.same.lawful first)
 
 -- it is not cut while the run goes on ------------------------------------------
 

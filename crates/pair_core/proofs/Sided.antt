@@ -9,20 +9,22 @@ use Rattle.s7_base.specs.declared.entry.Loss.TheVariants.{Failed, Suspect}
 use Rattle.s7_base.specs.declared.entry.Ask.{Ask}
 use Rattle.s7_base.specs.declared.entry.Ask.TheVariants as asks
 use Rattle.s7_base.specs.declared.entry.Answer.{Answer}
-use Rattle.s7_base.specs.declared.entry.Answer.TheVariants.{Lost, Back}
+use Rattle.s7_base.specs.declared.entry.Answer.TheVariants.{Lost, Back, CpuStop}
 use Rattle.s7_base.specs.declared.entry.Entry.{Entry}
 use Rattle.s7_base.specs.declared.entry.StopCode.{StopCode}
 use Rattle.mc_machine.specs.Stands.{Stands}
 use Rattle.plant_script.specs.Plan.{Plan}
 use Rattle.subsystem.specs.declared.parts.Life.{Life}
 use Rattle.subsystem.specs.Part.{Part, first_life}
+use Rattle.pair_core.specs.Monitor.{watch_by, is_overdue}
 use Rattle.pair_core.specs.declared.endings.Ended.{Ended}
 use Rattle.pair_core.specs.declared.endings.Ended.TheVariants.{End, Stop, NoneLeft, Spent, NotPlayed}
 use Rattle.pair_core.specs.declared.standing.Standing.{Standing}
 use Rattle.pair_core.specs.Sides.{same_side, runs, first_standing, after}
 use Rattle.pair_core.specs.Cuts.{is_cut, is_late}
 use Rattle.pair_core.specs.Stops.{stop_by}
-use Rattle.pair_core.specs.Lawful.{IsPlainAnswer, IsLawfulAnswer, LawfulFrom}
+use Rattle.s7_base.specs.declared.entry.StopCode.TheVariants.{Cycle}
+use Rattle.pair_core.specs.Lawful.{IsPlainAnswer, IsMonitoredAnswer, IsLawfulAnswer, LawfulFrom}
 use Rattle.pair_core.specs.Losses.{loses_by, lost_from, lost_at}
 use Rattle.pair_core.specs.Lives.{Stretch, StretchEnd, with_run, Change, loses, keeps, change_of, ends_by, began_after, stretches_from, EndsAt, IsNext, IsLife, AreLivesOf, AreLives, place_of}
 use Rattle.pair_core.specs.Lives.StretchEnd.{lost_at as is_lost_at}
@@ -55,15 +57,20 @@ plain_sure plan k (asks.Stop code) answer e = ap is_suspicion e
 plain_sure plan k (asks.ReadP addr width) answer e = absurd e
 plain_sure plan k (asks.WriteP addr width value) answer e = absurd e
 
-sure_by : (plan : Plan) (k : ℕ) (ask : Ask) (answer : Answer) (a b : Bool)
-    → MatchBool a (answer ≡ Lost A Failed) (MatchBool b (answer ≡ Lost B Failed) (IsPlainAnswer plan k ask answer)) → is_suspicion answer ≡ false
-sure_by plan k ask answer true b h = ap is_suspicion h
-sure_by plan k ask answer false true h = ap is_suspicion h
-sure_by plan k ask answer false false h = plain_sure plan k ask answer h
+monitored_sure : (plan : Plan) (k : ℕ) (ask : Ask) (answer : Answer) (overdue : Bool)
+    → MatchBool overdue (answer ≡ CpuStop Cycle) (IsPlainAnswer plan k ask answer) → is_suspicion answer ≡ false
+monitored_sure plan k ask answer true h = ap is_suspicion h
+monitored_sure plan k ask answer false h = plain_sure plan k ask answer h
+
+sure_by : (plan : Plan) (watch : Option ℕ) (k : ℕ) (ask : Ask) (answer : Answer) (a b : Bool)
+    → MatchBool a (answer ≡ Lost A Failed) (MatchBool b (answer ≡ Lost B Failed) (IsMonitoredAnswer plan watch k ask answer)) → is_suspicion answer ≡ false
+sure_by plan watch k ask answer true b h = ap is_suspicion h
+sure_by plan watch k ask answer false true h = ap is_suspicion h
+sure_by plan watch k ask answer false false h = monitored_sure plan k ask answer (is_overdue watch k) h
 
 -- no side is lost for suspicion yet
-lawful_sure : (plan : Plan) (st : Standing) (k : ℕ) (ask : Ask) (answer : Answer) → IsLawfulAnswer plan st k ask answer → is_suspicion answer ≡ false
-lawful_sure plan st k ask answer h = sure_by plan k ask answer (st.a && st.b && is_cut plan A k) (st.a && st.b && is_cut plan B k) h
+lawful_sure : (plan : Plan) (st : Standing) (watch : Option ℕ) (k : ℕ) (ask : Ask) (answer : Answer) → IsLawfulAnswer plan st watch k ask answer → is_suspicion answer ≡ false
+lawful_sure plan st watch k ask answer h = sure_by plan watch k ask answer (st.a && st.b && is_cut plan A k) (st.a && st.b && is_cut plan B k) h
 
 change_stays : (answer : Answer) (s : Side) → loses_by answer s ≡ false → comes_back answer ≡ false → change_of answer s ≡ keeps
 change_stays (Lost t why) s h b = ap (λ x. if x then loses why else keeps) h
@@ -85,31 +92,31 @@ next_stretches began k change es s = ends_by began k change ++ stretches_from (b
 
 module _ (plan : Plan) (s : Side) where
   -- a side that is out has no further stretch
-  out_stretches : (st : Standing) (before : Option StopCode) (k : ℕ) (es : List Entry) → LawfulFrom plan st before k es → stretches_from None k es s ≡ []
-  out_stretches st before k [] lawful = refl
-  out_stretches st before k (e ∷ es) lawful =
-      let rest = out_stretches (after st e) (stop_by e.request.ask e.answer) (k + 1) es lawful.1 in
+  out_stretches : (st : Standing) (before : Option StopCode) (watch : Option ℕ) (k : ℕ) (es : List Entry) → LawfulFrom plan st before watch k es → stretches_from None k es s ≡ []
+  out_stretches st before watch k [] lawful = refl
+  out_stretches st before watch k (e ∷ es) lawful =
+      let rest = out_stretches (after st e) (stop_by e.request.ask e.answer) (watch_by watch k e.request.ask e.answer) (k + 1) es lawful.1 in
       let P : Bool → Type 0 = λ b. loses_by e.answer s ≡ b → stretches_from None k (e ∷ es) s ≡ [] in
       let by : P (loses_by e.answer s) = elim (loses_by e.answer s) as P [
-        | true ↦ λ l. ap (λ c. next_stretches None k c es s) (change_lost e.answer s l (lawful_sure plan st k e.request.ask e.answer lawful.0.answer)) ∙ rest
-        | false ↦ λ l. ap (λ c. next_stretches None k c es s) (change_stays e.answer s l (lawful_stays plan st k e.request.ask e.answer lawful.0.answer)) ∙ rest
+        | true ↦ λ l. ap (λ c. next_stretches None k c es s) (change_lost e.answer s l (lawful_sure plan st watch k e.request.ask e.answer lawful.0.answer)) ∙ rest
+        | false ↦ λ l. ap (λ c. next_stretches None k c es s) (change_stays e.answer s l (lawful_stays plan st watch k e.request.ask e.answer lawful.0.answer)) ∙ rest
       ] in
       by refl
 
   -- a side that runs has one stretch, up to its loss
-  in_stretches : (first : ℕ) (st : Standing) (before : Option StopCode) (k : ℕ) (es : List Entry) → LawfulFrom plan st before k es
+  in_stretches : (first : ℕ) (st : Standing) (before : Option StopCode) (watch : Option ℕ) (k : ℕ) (es : List Entry) → LawfulFrom plan st before watch k es
       → stretches_from (Some first) k es s ≡ record { first = first; last = end_of (lost_from k es s) } ∷ []
-  in_stretches first st before k [] lawful = refl
-  in_stretches first st before k (e ∷ es) lawful =
+  in_stretches first st before watch k [] lawful = refl
+  in_stretches first st before watch k (e ∷ es) lawful =
       let more = lawful.1 in
       let P : Bool → Type 0 = λ b. loses_by e.answer s ≡ b → stretches_from (Some first) k (e ∷ es) s ≡ record { first = first; last = end_of (if b then Some k else lost_from (k + 1) es s) } ∷ [] in
       let by : P (loses_by e.answer s) = elim (loses_by e.answer s) as P [
         | true ↦ λ l.
-            ap (λ c. next_stretches (Some first) k c es s) (change_lost e.answer s l (lawful_sure plan st k e.request.ask e.answer lawful.0.answer))
-            ∙ ap (λ l. record { first = first; last = is_lost_at Failed k } ∷ l) (out_stretches (after st e) (stop_by e.request.ask e.answer) (k + 1) es more)
+            ap (λ c. next_stretches (Some first) k c es s) (change_lost e.answer s l (lawful_sure plan st watch k e.request.ask e.answer lawful.0.answer))
+            ∙ ap (λ l. record { first = first; last = is_lost_at Failed k } ∷ l) (out_stretches (after st e) (stop_by e.request.ask e.answer) (watch_by watch k e.request.ask e.answer) (k + 1) es more)
         | false ↦ λ l.
-            ap (λ c. next_stretches (Some first) k c es s) (change_stays e.answer s l (lawful_stays plan st k e.request.ask e.answer lawful.0.answer))
-            ∙ in_stretches first (after st e) (stop_by e.request.ask e.answer) (k + 1) es more
+            ap (λ c. next_stretches (Some first) k c es s) (change_stays e.answer s l (lawful_stays plan st watch k e.request.ask e.answer lawful.0.answer))
+            ∙ in_stretches first (after st e) (stop_by e.request.ask e.answer) (watch_by watch k e.request.ask e.answer) (k + 1) es more
       ] in
       by refl
 
@@ -139,7 +146,7 @@ ends_at p w s None m run h = (h.few, (h.running run).near)
 next_by : (p : Setup) (w : World) (s : Side) → Good p w → runs (first_standing p.solo) s ≡ true → (o : Option ℕ) → lost_at w.log.entries s ≡ o → IsNext (length w.log.entries) (ended_by p w) (end_of o) (part w s).place
 next_by p w s good first (Some j) is = (good.sides s).lost j is
 next_by p w s good first None is =
-    let run : runs (standing_in p w.log) s ≡ true = not_lost p.plan s (first_standing p.solo) None 0 w.log.entries good.log.same.lawful is ∙ first in
+    let run : runs (standing_in p w.log) s ≡ true = not_lost p.plan s (first_standing p.solo) None None 0 w.log.entries good.log.same.lawful is ∙ first in
     ends_at p w s (ended p w) (ended_means p w) run (good.sides s)
 
 abbrev LivesAt : Setup → World → Side → Bool → List Life → Type 0
@@ -152,9 +159,9 @@ lives_by p w s good true first =
     let stretch : Stretch = record { first = 0; last = end_of (lost_at w.log.entries s) } in
     let here : IsLife (length w.log.entries) (ended_by p w) stretch life =
     record { first = refl; how = refl; above = omega arith; next = next_by p w s good first (lost_at w.log.entries s) refl } in
-    subst (λ l. AreLivesOf (length w.log.entries) (ended_by p w) l (life ∷ [])) (sym (in_stretches p.plan s 0 (first_standing p.solo) None 0 w.log.entries good.log.same.lawful)) (here, tt)
+    subst (λ l. AreLivesOf (length w.log.entries) (ended_by p w) l (life ∷ [])) (sym (in_stretches p.plan s 0 (first_standing p.solo) None None 0 w.log.entries good.log.same.lawful)) (here, tt)
 lives_by p w s good false first =
-    subst (λ l. AreLivesOf (length w.log.entries) (ended_by p w) l []) (sym (out_stretches p.plan s (first_standing p.solo) None 0 w.log.entries good.log.same.lawful)) tt
+    subst (λ l. AreLivesOf (length w.log.entries) (ended_by p w) l []) (sym (out_stretches p.plan s (first_standing p.solo) None None 0 w.log.entries good.log.same.lawful)) tt
 
 -- the lives of a subsystem that stands where the pair says are those of its side
 side_lives : (p : Setup) (w : World) (s : Side) (lives : List Life) → Good p w → lives ≡ lives_of (part w s) → AreLives p.solo w.log.entries (ended_by p w) s lives
@@ -177,7 +184,7 @@ side_of p w s sub good at_own = record {
       let up : is_down p w.log s ≡ false = down_is p w.log s ∙ uncut_up (is_open p w.log) (is_cut p.plan s n) (is_late p.plan s n) (same_side s (standing_in p w.log).master) (is_pending w.log) (has_shown w.log s) uncut in
       let alive = ((good.sides s).running run).alive up in
       let stands = (at_own.machine alive).stands in
-      let loaded : (part w s).loaded ≡ true = (good.sides s).loaded ∙ ran_first p.plan s (first_standing p.solo) None 0 w.log.entries good.log.same.lawful run in
+      let loaded : (part w s).loaded ≡ true = (good.sides s).loaded ∙ ran_first p.plan s (first_standing p.solo) None None 0 w.log.entries good.log.same.lawful run in
       let place : place_of sub.lives ≡ (part w s).place = ap place_of at_own.lives ∙ ap (λ b. place_of (if b then record first_life { next = (part w s).place } ∷ [] else [])) loaded in
       let taken : take (place_of sub.lives) (answers_of w.log.entries) ≡ answers_of (take (part w s).place w.log.entries) =
       ap (λ k. take k (answers_of w.log.entries)) place ∙ take-map (λ (e : Entry). e.answer) (part w s).place w.log.entries in

@@ -1,11 +1,12 @@
 -- What each reading of a record says once one more entry stands.
-use Rattle.std.proofs.Common.{◌≡◌, ℕ, suc, ◌+◌, List, [], ◌∷◌, ◌++◌, length, refl, sym, arith, Option, Some, append_assoc, add-zero}
+use Rattle.std.proofs.Common.{◌≡◌, ℕ, suc, ◌+◌, List, [], ◌∷◌, ◌++◌, length, refl, sym, ap, ◌∙◌, arith, Option, Some, None, append_assoc, add-zero}
 use Rattle.std.specs.Prelude.{if◌then◌else◌}
 use Rattle.std.proofs.lemmas.List.{append-nil, map-append}
 use Rattle.s7_base.specs.declared.entry.Side.{Side}
 use Rattle.s7_base.specs.declared.entry.Entry.{Entry}
 use Rattle.s7_base.specs.declared.entry.StopCode.{StopCode}
 use Rattle.plant_script.specs.Plan.{Plan}
+use Rattle.pair_core.specs.Monitor.{watch_by, watch_from, watch_of}
 use Rattle.pair_core.specs.declared.standing.Standing.{Standing}
 use Rattle.pair_core.specs.Sides.{same_side, after, standing_from}
 use Rattle.pair_core.specs.Lawful.{MayStand, LawfulFrom}
@@ -39,11 +40,23 @@ pub marked_snoc : (past k : ℕ) (es : List Entry) (e : Entry)
 marked_snoc past k [] e = simp add-zero
 marked_snoc past k (x ∷ xs) e = rw (marked_snoc (if is_output x then k + 1 else past) (k + 1) xs e, shift k (length xs))
 
-pub lawful_snoc : (plan : Plan) (st : Standing) (before : Option StopCode) (k : ℕ) (es : List Entry) (e : Entry)
-    → LawfulFrom plan st before k es → MayStand plan (standing_from st es) (stop_from before es) (k + length es) e → LawfulFrom plan st before k (es ++ e ∷ [])
-lawful_snoc plan st before k [] e h m = (rw add-zero at m, tt)
-lawful_snoc plan st before k (x ∷ xs) e h m =
-    (h.0, lawful_snoc plan (after st x) (stop_by x.request.ask x.answer) (k + 1) xs e h.1 (rw (shift k (length xs)) at m))
+pub watch_snoc : (watch : Option ℕ) (k : ℕ) (es : List Entry) (e : Entry)
+    → watch_from watch k (es ++ e ∷ []) ≡ watch_by (watch_from watch k es) (k + length es) e.request.ask e.answer
+watch_snoc watch k [] e = ap (λ n. watch_by watch n e.request.ask e.answer) (sym (add-zero k))
+watch_snoc watch k (x ∷ xs) e =
+    watch_snoc (watch_by watch k x.request.ask x.answer) (k + 1) xs e
+    ∙ ap (λ n. watch_by (watch_from (watch_by watch k x.request.ask x.answer) (k + 1) xs) n e.request.ask e.answer) (sym (shift k (length xs)))
+
+pub watch_added : (es : List Entry) (e : Entry) → watch_of (es ++ e ∷ []) ≡ watch_by (watch_of es) (length es) e.request.ask e.answer
+watch_added es e =
+    let here : 0 + length es ≡ length es = omega arith in
+    watch_snoc None 0 es e ∙ ap (λ n. watch_by (watch_of es) n e.request.ask e.answer) here
+
+pub lawful_snoc : (plan : Plan) (st : Standing) (before : Option StopCode) (watch : Option ℕ) (k : ℕ) (es : List Entry) (e : Entry)
+    → LawfulFrom plan st before watch k es → MayStand plan (standing_from st es) (stop_from before es) (watch_from watch k es) (k + length es) e → LawfulFrom plan st before watch k (es ++ e ∷ [])
+lawful_snoc plan st before watch k [] e h m = (rw add-zero at m, tt)
+lawful_snoc plan st before watch k (x ∷ xs) e h m =
+    (h.0, lawful_snoc plan (after st x) (stop_by x.request.ask x.answer) (watch_by watch k x.request.ask x.answer) (k + 1) xs e h.1 (rw (shift k (length xs)) at m))
 
 pub answers_snoc : (es : List Entry) (e : Entry) → answers_of (es ++ e ∷ []) ≡ answers_of es ++ e.answer ∷ []
 answers_snoc es e = map-append (λ (x : Entry). x.answer) es (e ∷ [])

@@ -15,6 +15,7 @@ use Rattle.mc_machine.specs.Stands.{Running, CanAsk, CanTake, CanGoOn, IsTaken, 
 use Rattle.subsystem.specs.declared.parts.Life.{Life}
 use Rattle.subsystem.specs.Part.{Part, first_life, TookOne}
 use Rattle.plant_script.specs.Plan.{Plan}
+use Rattle.pair_core.specs.Monitor.{watch_by, watch_from}
 use Rattle.pair_core.specs.declared.standing.Standing.{Standing}
 use Rattle.pair_core.specs.declared.own.Own.{Own}
 use Rattle.pair_core.specs.Sides.{first_standing, standing_from, after}
@@ -30,11 +31,11 @@ use Rattle.pair_core.proofs.Snoc.{shift, answers_snoc}
 use Rattle.pair_core.proofs.Answers.{lawful_takes, not_stopping}
 
 -- an entry in the middle of a lawful record may stand there
-lawful_mid : (plan : Plan) (st : Standing) (before : Option StopCode) (k : ℕ) (front : List Entry) (e : Entry) (rest : List Entry)
-    → LawfulFrom plan st before k (front ++ e ∷ rest) → MayStand plan (standing_from st front) (stop_from before front) (k + length front) e
-lawful_mid plan st before k [] e rest h = rw add-zero h.0
-lawful_mid plan st before k (x ∷ xs) e rest h =
-    rw (shift k (length xs)) (lawful_mid plan (after st x) (stop_by x.request.ask x.answer) (k + 1) xs e rest h.1)
+lawful_mid : (plan : Plan) (st : Standing) (before : Option StopCode) (watch : Option ℕ) (k : ℕ) (front : List Entry) (e : Entry) (rest : List Entry)
+    → LawfulFrom plan st before watch k (front ++ e ∷ rest) → MayStand plan (standing_from st front) (stop_from before front) (watch_from watch k front) (k + length front) e
+lawful_mid plan st before watch k [] e rest h = rw add-zero h.0
+lawful_mid plan st before watch k (x ∷ xs) e rest h =
+    rw (shift k (length xs)) (lawful_mid plan (after st x) (stop_by x.request.ask x.answer) (watch_by watch k x.request.ask x.answer) (k + 1) xs e rest h.1)
 
 -- the request of an entry in the middle is what the CPU asks there
 asked_mid : (program : Program) (before : List Answer) (front : List Entry) (e : Entry) (rest : List Entry)
@@ -66,11 +67,11 @@ met p l k e good here =
     let is : l.entries ≡ take k l.entries ++ e ∷ drop (k + 1) l.entries = split_at l.entries k e here in
     let front = take k l.entries in
     let rest = drop (k + 1) l.entries in
-    let may : MayStand p.plan (standing_from (first_standing p.solo) front) (stop_from None front) (0 + length front) e =
-    lawful_mid p.plan (first_standing p.solo) None 0 front e rest (subst (λ es. LawfulFrom p.plan (first_standing p.solo) None 0 es) is good.same.lawful) in
+    let may : MayStand p.plan (standing_from (first_standing p.solo) front) (stop_from None front) (watch_from None 0 front) (0 + length front) e =
+    lawful_mid p.plan (first_standing p.solo) None None 0 front e rest (subst (λ es. LawfulFrom p.plan (first_standing p.solo) None None 0 es) is good.same.lawful) in
     record {
       going = may.going;
-      fits = lawful_takes p.plan (standing_from (first_standing p.solo) front) (0 + length front) e.request e.answer may.answer;
+      fits = lawful_takes p.plan (standing_from (first_standing p.solo) front) (watch_from None 0 front) (0 + length front) e.request e.answer may.answer;
       asked = asked_mid p.program [] front e rest (subst (λ es. requests_of es ≡ asked_after p.program [] (answers_of es)) is good.same.requests);
     }
 

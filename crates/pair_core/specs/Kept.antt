@@ -8,6 +8,7 @@ use Rattle.pair_core.specs.declared.turns.Act.{Act}
 use Rattle.pair_core.specs.declared.turns.Act.TheVariants.{Over, Dead, Take, Show, Mark, Unmarked, Behind, Append}
 use Rattle.pair_core.specs.declared.state.State.{State}
 use Rattle.pair_core.specs.CutsKept.{IsCutsAt}
+use Rattle.pair_core.specs.Monitor.{watch_of}
 use Rattle.pair_core.specs.World.{Setup, Log, World, Game, part, standing_in, shown_past, is_open}
 
 abbrev pub setup_of : State → Setup
@@ -29,6 +30,7 @@ IsImageBefore plan k image = (earlier : ℕ) × (earlier ≤ k) × IsImageOf pla
 -- the fields that repeat what the record, the showings and the script say, and the room
 pub record IsKept (s : State) : Type 0 where
   pub standing : s.standing ≡ standing_in (setup_of s) (log_of s)
+  pub watch : s.watch ≡ watch_of s.log.entries
   pub shown_a : s.shown_by_a ≡ shown_past s.shown.list A
   pub shown_b : s.shown_by_b ≡ shown_past s.shown.list B
   pub image : IsImageBefore s.script (length s.log.entries) s.image

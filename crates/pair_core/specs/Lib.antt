@@ -10,6 +10,7 @@ pub mod Kept
 pub mod Lawful
 pub mod Lives
 pub mod Losses
+pub mod Monitor
 pub mod OneRecord
 pub mod Places
 pub mod Played

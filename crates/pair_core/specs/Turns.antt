@@ -10,7 +10,9 @@ use Rattle.plant_script.specs.Plan.{Plan}
 use Rattle.plant_script.specs.InputImage.{input_image}
 use Rattle.pair_core.specs.declared.turns.Turn.{Turn}
 use Rattle.pair_core.specs.declared.turns.Turn.TheVariants.{Answered, Show, Marked, NotYet, Begin, Chunk, Page, Adopt, Dead, Over}
+use Rattle.s7_base.specs.declared.entry.StopCode.TheVariants as codes
 use Rattle.pair_core.specs.Cuts.{is_cut}
+use Rattle.pair_core.specs.Monitor.{is_overdue}
 use Rattle.pair_core.specs.declared.standing.Standing.{Standing}
 
 abbrev pub is_over : Turn → Bool
@@ -38,8 +40,12 @@ plain_answer plan k (asks.Stop code) = Some answers.Done
 plain_answer plan k (asks.ReadP addr width) = None
 plain_answer plan k (asks.WriteP addr width value) = None
 
--- the lawful answer at moment k: of two sides that run, the one that is cut is lost; else the plain answer
-abbrev pub answer_at : Plan → Standing → ℕ → Ask → Option Answer
-answer_at plan st k ask =
+-- a cycle that takes too long stops the CPU
+abbrev pub monitored_answer : Plan → Option ℕ → ℕ → Ask → Option Answer
+monitored_answer plan watch k ask = if is_overdue watch k then Some (answers.CpuStop codes.Cycle) else plain_answer plan k ask
+
+-- the lawful answer at moment k: of two sides that run, the one that is cut is lost; else the answer under monitoring
+abbrev pub answer_at : Plan → Standing → Option ℕ → ℕ → Ask → Option Answer
+answer_at plan st watch k ask =
     if st.a && st.b && is_cut plan A k then Some (answers.Lost A Failed)
-    else (if st.a && st.b && is_cut plan B k then Some (answers.Lost B Failed) else plain_answer plan k ask)
+    else (if st.a && st.b && is_cut plan B k then Some (answers.Lost B Failed) else monitored_answer plan watch k ask)

@@ -25,6 +25,7 @@ use Rattle.pair_core.specs.Stops.{stop_of}
 use Rattle.pair_core.specs.Endings.{ends_by_output}
 use Rattle.pair_core.specs.Played.{answers_of}
 use Rattle.pair_core.specs.Turns.{answer_at, is_over}
+use Rattle.pair_core.specs.Monitor.{watch_of}
 
 -- what a pair is made for: the program of its CPUs, the plant script, and whether side A runs alone
 pub record Setup : Type 0 where
@@ -142,7 +143,7 @@ entry_with request (Some answer) = Some (record { request = request; answer = an
 
 abbrev pub entry_for : Setup → Log → Option Request → Option Entry
 entry_for p l None = None
-entry_for p l (Some request) = entry_with request (answer_at p.plan (standing_in p l) (length l.entries) request.ask)
+entry_for p l (Some request) = entry_with request (answer_at p.plan (standing_in p l) (watch_of l.entries) (length l.entries) request.ask)
 
 -- the entry that comes next: what the standard CPU asks after the record's answers, with the lawful answer
 abbrev pub next_entry : Setup → Log → Option Entry

@@ -3,25 +3,28 @@ ghost use Rattle.std.specs.Prelude.{◌≡◌, ◌+◌, ◌*◌, ◌<◌, ◌++�
 ghost use Rattle.mc_machine.specs.Stands.{IsAsked};
 ghost use Rattle.pair_core.specs.declared.turns.Act as Act;
 ghost use Rattle.pair_core.specs.Turns.{answer_at};
+ghost use Rattle.pair_core.specs.Monitor.{watch_of};
 ghost use Rattle.pair_core.specs.World.{part_in, with_part, acted, standing_in, next_entry, with_entry};
 ghost use Rattle.pair_core.specs.Kept.{setup_of, log_of, world_of, IsKept, CanAct};
 ghost use Rattle.pair_core.specs.Places.{IsAt};
 ghost use Rattle.pair_core.specs.Good.{GoodLog};
 
+use crate::monitor::{is_overdue, watch_by};
 use crate::own::Own;
 use crate::sides::other;
 use crate::state::{State, plain_answer};
 use crate::turns::Act;
 use crate::{Reason, Turn};
-use s7_base::{Answer, Ask, Entry, Loss, Side};
+use s7_base::{Answer, Ask, Entry, Loss, Side, StopCode};
 use subsystem::Subsystem;
 
 impl State {
-    /// The lawful answer to what is asked next: of two sides that run, the one that is cut is lost.
+    /// The lawful answer to what is asked next: of two sides that run, the one that is cut is lost; and a cycle that
+    /// takes too long stops the CPU.
     fn answer(&mut self, ask: &Ask) -> Answer
         requires kept { IsKept self.old }
         requires asked { IsAsked ask.now }
-        ensures answer { answer_at self.old.script (standing_in (setup_of self.old) (log_of self.old)) (length self.old.log.entries) ask.now ≡ Some result }
+        ensures answer { answer_at self.old.script (standing_in (setup_of self.old) (log_of self.old)) (watch_of self.old.log.entries) (length self.old.log.entries) ask.now ≡ Some result }
         ensures world { world_of self.new ≡ world_of self.old }
         ensures setup { setup_of self.new ≡ setup_of self.old }
         ensures kept { IsKept self.new }
@@ -41,6 +44,9 @@ impl State {
             }
         }
         let moment = self.len();
+        if is_overdue(self.watch, moment) {
+            return Answer::CpuStop(StopCode::Cycle);
+        }
         plain_answer(&self.script, &mut self.image, ask, moment)
     }
 
@@ -53,7 +59,9 @@ impl State {
         ensures setup { setup_of self.new ≡ setup_of self.old }
         ensures kept { IsKept self.new }
     {
+        let moment = self.len();
         self.standing = self.standing.after(&entry.answer);
+        self.watch = watch_by(self.watch, moment, &entry.request.ask, &entry.answer);
         self.log.append(entry);
         self.cuts = self.cuts.advance(&self.script, self.log.len());
     }

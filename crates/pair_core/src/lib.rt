@@ -6,6 +6,7 @@ mod acts;
 mod cuts;
 mod endings;
 mod laws;
+mod monitor;
 mod own;
 mod pair;
 mod showings;

@@ -87,6 +87,7 @@ impl Pair {
                     b: second,
                 },
                 standing: Standing::first(solo),
+                watch: None,
                 shown_by_a: 0,
                 shown_by_b: 0,
                 image: InputImage::new(),

@@ -24,8 +24,8 @@ use s7_base::{Answer, Ask, Blocks, Entry, Loss, Side, StopCode};
 use subsystem::Subsystem;
 
 /// All that the pair keeps: what it is made for, the record and the showings, one past the last output that is
-/// marked, what is kept of each side, and what follows from these: who runs, one past the last entry that each
-/// side showed, the input image, and what the script made of the sides.
+/// marked, what is kept of each side, and what follows from these: who runs, from which moment the cycle is monitored,
+/// one past the last entry that each side showed, the input image, and what the script made of the sides.
 #[derive(Debug, Drop)]
 pub struct State {
     pub program: Blocks,
@@ -36,6 +36,7 @@ pub struct State {
     pub marked: u32,
     pub parts: Parts,
     pub standing: Standing,
+    pub watch: Option<u32>,
     pub shown_by_a: u32,
     pub shown_by_b: u32,
     pub image: InputImage,

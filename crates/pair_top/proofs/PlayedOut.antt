@@ -8,7 +8,7 @@ use Rattle.mc_machine.specs.Meaning.{State}
 use Rattle.mc_machine.specs.Stands.{Running, Shows, Stands, IsRunning, CanAsk, CpuWaits, CpuStopped}
 use Rattle.subsystem.specs.Part.{Part}
 use Rattle.pair_core.specs.declared.own.Own.{Own}
-use Rattle.pair_core.specs.CpuTail.{noted, tail_of, tail_of_state}
+use Rattle.pair_core.specs.CpuTail.{tail_in, tail_of, tail_of_state}
 use Rattle.pair_core.specs.Places.{IsAt, AskedStands}
 use Rattle.pair_core.specs.Played.{answers_of}
 use Rattle.pair_top.specs.Playing.{ComesTo, IsBrought}
@@ -16,8 +16,7 @@ use Rattle.pair_top.specs.Playing.{ComesTo, IsBrought}
 -- what a machine shows of a state is the tail of the state
 same_tail : (running : Running) (state : State) → Shows running state → tail_of (Some running) ≡ tail_of_state state
 same_tail running state shows =
-    ap (λ m. record { notes = noted running.config.diag; inputs = m.inputs; outputs = m.outputs; flags = m.flags }) shows.memory
-    ∙ ap (λ d. record { notes = noted d; inputs = state.memory.inputs; outputs = state.memory.outputs; flags = state.memory.flags }) shows.diag
+    ap (λ m. tail_in m running.config.diag) shows.memory ∙ ap (λ d. tail_in state.memory d) shows.diag
 
 pub comes_waiting : (program : Program) (given : List Answer) (request : Request) (machine : Option Running) → CpuWaits program given request machine → ComesTo program given (tail_of machine)
 comes_waiting program given request None waits = absurd waits

@@ -184,6 +184,7 @@ impl Subsystem {
         requires { IsOpen self.now }
         ensures value { result ≡ counter_of self.now.machine n }
         ensures bound { result ≤ 999 }
+        ensures count { OfRunning self.now.machine (λ running. length running.config.memory.counters ≡ 256) }
     {
         self.machine.counter_value(n)
     }

@@ -2,6 +2,7 @@ use Rattle.std.proofs.Common.{◌≡◌, ◌∙◌, ◌*◌, [], length, ap, sym
 use Rattle.s7_base.specs.declared.entry.Side.TheVariants.{A, B}
 use Rattle.pair_core.specs.Sides.{standing}
 use Rattle.pair_core.specs.CutsKept.{IsCutsAt}
+use Rattle.pair_core.specs.Monitor.{watch_of}
 use Rattle.pair_core.specs.World.{Setup, shown_past, first_world}
 use Rattle.pair_core.specs.Good.{Good}
 use Rattle.pair_core.specs.Progress.{IsAlone}
@@ -16,6 +17,7 @@ invariant_of-result c =
     let setup : Setup = record { program = c.in_ok-program.program; plan = c.args.script; solo = c.args.solo } in (
       record {
         standing = c.first.ensures ∙ ap (λ es. standing c.args.solo es) (sym none);
+        watch = ap watch_of (sym none);
         shown_a = ap (λ xs. shown_past xs A) (sym unshown);
         shown_b = ap (λ xs. shown_past xs B) (sym unshown);
         image = (0, omega arith, c.new.ensures c.args.script 0);

@@ -1,6 +1,7 @@
 use Rattle.std.proofs.Common.{length, ap}
 use Rattle.pair_core.specs.World.{part_in, standing_in}
 use Rattle.pair_core.specs.Kept.{setup_of, log_of}
+use Rattle.pair_core.specs.Monitor.{watch_of}
 use Rattle.pair_core.proofs.Answers.{lawful_is, lawful_takes}
 use Rattle.pair_core.proofs.Opens.{going_at, open_room}
 use Rattle.pair_core.proofs.Taking.{can_ask_at, can_take}
@@ -18,9 +19,10 @@ take-requires-clause-takes c =
     let self = c.args.self.now in
     let st = standing_in (setup_of self) (log_of self) in
     let k = length self.log.entries in
+    let watch = watch_of self.log.entries in
     can_take c.ask-request.new.self.machine c.ask-request.result c.answer-answer.result c.ask-request.ensures.waits
-    (lawful_takes self.script st k c.ask-request.result c.answer-answer.result
-    (lawful_is self.script st k c.ask-request.result.ask c.answer-answer.result c.answer-answer.ensures.answer))
+    (lawful_takes self.script st watch k c.ask-request.result c.answer-answer.result
+    (lawful_is self.script st watch k c.ask-request.result.ask c.answer-answer.result c.answer-answer.ensures.answer))
 
 pub add-requires-clause-room : goal.add-requires-clause-room
 add-requires-clause-room c =
