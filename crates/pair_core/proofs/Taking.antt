@@ -1,6 +1,6 @@
 -- A subsystem takes an entry of the record.
-use Rattle.std.proofs.Common.{◌≡◌, ◌∙◌, ℕ, ◌+◌, ◌≤◌, true, false, List, [], ◌∷◌, ◌++◌, length, take, drop, Option, Some, None, refl, ap, sym, subst, append_assoc, append-nil, add-zero, add-one, slice_get}
-use Rattle.std.proofs.lemmas.List.{take-append-drop, take_more, length-map, length-take-le}
+use Rattle.std.proofs.Common.{arith, length-append, ◌≡◌, ◌∙◌, ℕ, ◌+◌, ◌≤◌, true, false, List, [], ◌∷◌, ◌++◌, length, take, drop, Option, Some, None, refl, ap, sym, subst, append_assoc, append-nil, add-zero, add-one, slice_get}
+use Rattle.std.proofs.lemmas.List.{take-append-drop, take_more, take_all, length-map, length-take-le}
 use Rattle.std.proofs.lemmas.Option.{slice_get_within, get_or_from_slice_get}
 use Rattle.std.proofs.Math.Seq.{drop-cons}
 use Rattle.s7_base.specs.declared.entry.Side.{Side}
@@ -169,3 +169,23 @@ pub put_taken : (parts new : Parts) (side : Side) (own : Own) (program : Program
 put_taken parts new side own program es s is put h =
     let same : part_in new side ≡ taken_one (part_in parts side) = ap (λ ps. part_in ps side) put ∙ (part_put parts side (record own { place = own.place + 1 }) ∙ ap taken_one is) in
     subst (λ o. IsAt program o es s) (sym same) h
+
+-- a side that has appended an entry, and taken it, stands behind it
+pub put_added : (program now : Program) (parts mid new : Parts) (side : Side) (own : Own) (n : ℕ) (es all : List Entry) (e : Entry) (s : Part)
+    → now ≡ program → all ≡ es ++ e ∷ [] → mid ≡ parts → own ≡ part_in parts side → n ≡ own.place
+    → new ≡ with_part mid side (record own { place = n + 1 })
+    → IsAt program (taken_one (part_in parts side)) (es ++ e ∷ []) s → IsAt now (part_in new side) all s
+put_added program now parts mid new side own n es all e s same longer kept is count put h =
+    rw (same, longer)
+    (put_taken parts new side own program (es ++ e ∷ []) s is
+    (put ∙ ap (λ q. with_part q side (record own { place = n + 1 })) kept ∙ ap (λ k. with_part parts side (record own { place = k + 1 })) count) h)
+
+-- all entries and the one that was added
+pub take_added : (es : List Entry) (k : ℕ) (e : Entry) → k ≡ length es → take (k + 1) (es ++ e ∷ []) ≡ es ++ e ∷ []
+take_added es k e here = take_all (k + 1) (es ++ e ∷ []) (omega (arith, here, length-append es (e ∷ [])))
+
+-- what stands for a program after the entries of a place stands after all of them where the place is their end
+pub stands_all : (program : Program) (own : Own) (es : List Entry) (s : Part) → IsAt program own es s → own.alive ≡ true → own.place ≡ length es → Stands program (answers_of es) s.machine
+stands_all program own es s at_old alive here =
+    let all : take own.place es ≡ es = take_all own.place es (omega (arith, here)) in
+    subst (λ l. Stands program (answers_of l) s.machine) all (stands_at program own es s at_old alive)

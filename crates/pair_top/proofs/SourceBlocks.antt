@@ -1,21 +1,15 @@
 -- The program of placed instructions is well formed, and reading gives such instructions.
 use Rattle.std.proofs.Common.{◌≡◌, ℕ, ◌≤◌, List, [], length, map, Some, Err, refl, sym, ◌∙◌, arith}
-use Rattle.std.specs.Prelude.{All, IsTrue, IsSome, IsErrOf}
-use Rattle.std.proofs.lemmas.Bool.{le-leb}
+use Rattle.std.specs.Prelude.{All, IsTrue, IsErrOf}
 use Rattle.std.proofs.lemmas.List.{length-map}
 use Rattle.std.proofs.lemmas.List.Elements.{All-map, All-weaker, All-cons, All-nil}
-use Rattle.s7_base.specs.declared.instruction.BitOperation.{BitOperation}
-use Rattle.s7_base.specs.declared.instruction.BitOperation.TheVariants.{And, AndNot, Or, OrNot, Assign, Set, Reset}
-use Rattle.s7_base.specs.declared.instruction.BitArea.{BitArea}
-use Rattle.s7_base.specs.declared.instruction.BitArea.TheVariants.{I, Q, M}
 use Rattle.s7_base.specs.declared.instruction.BitInstruction.{BitInstruction}
-use Rattle.s7_base.specs.declared.instruction.Instruction.TheVariants.{Bit}
-use Rattle.s7_base.specs.Instruction.{operation_number, operation_of, area_number, area_of, instruction_of, bit_statement, IsPlaced}
-use Rattle.s7_base.specs.Blocks.{IsPlayable}
+use Rattle.s7_base.specs.Instruction.{bit_statement, IsPlaced}
+use Rattle.s7_base.specs.Blocks.{is_played, IsPlayable}
 use Rattle.s7_base.specs.Limits.{IsCode, IsData, IsWellFormed}
 use Rattle.s7_base.specs.Statements.{is_statement}
 use Rattle.s7_base.specs.declared.blocks.CodeKind.TheVariants.{Ob}
-use Rattle.s7_base.proofs.BitStatements.{bit_is_statement, bits_land}
+use Rattle.s7_base.proofs.BitStatements.{bit_is_statement, bit_is_played, bits_land}
 use Rattle.pair_top.specs.declared.read_error.ReadError.{ReadError}
 use Rattle.pair_top.specs.declared.read_error.ReadError.TheVariants.{Fault, NoMemory}
 use Rattle.pair_top.specs.Fields.{Gives}
@@ -24,36 +18,13 @@ use Rattle.pair_top.specs.SourceReading.{source_of}
 use Rattle.pair_top.proofs.Pieces.{some_is}
 use Rattle.pair_top.proofs.SourceLaws.{source_again}
 
--- the stored form of an instruction means it
-operation_again : (operation : BitOperation) → operation_of (operation_number operation) ≡ Some operation
-operation_again And = refl
-operation_again AndNot = refl
-operation_again Or = refl
-operation_again OrNot = refl
-operation_again Assign = refl
-operation_again Set = refl
-operation_again Reset = refl
-
-area_again : (area : BitArea) → area_of (area_number area) ≡ Some area
-area_again I = refl
-area_again Q = refl
-area_again M = refl
-
-stored_again : (i : BitInstruction) → IsPlaced i → instruction_of (bit_statement i) ≡ Some (Bit i)
-stored_again i placed =
-    rw (operation_again i.operation, area_again i.area, le-leb _ _ placed.bit, le-leb _ _ placed.at_byte) refl
-
-is_stored : (i : BitInstruction) → IsPlaced i → IsSome (instruction_of (bit_statement i))
-is_stored i placed = rw (stored_again i placed) refl
-
--- so its program is played
-pub main_is_playable : (is : List BitInstruction) → length is ≤ 256 → All IsPlaced is → IsPlayable (main_program is)
-main_is_playable is few placed = record {
+-- the program of instructions is played
+pub main_is_playable : (is : List BitInstruction) → All IsPlaced is → IsPlayable (main_program is)
+main_is_playable is placed = record {
   kind = refl;
   number = refl;
   temp = refl;
-  few = omega (arith, length-map is bit_statement);
-  each = All-map (λ s. IsSome (instruction_of s)) bit_statement is (All-weaker IsPlaced (λ i. IsSome (instruction_of (bit_statement i))) is_stored is placed);
+  each = All-map (λ s. IsTrue (is_played s)) bit_statement is (All-weaker IsPlaced (λ i. IsTrue (is_played (bit_statement i))) (λ i _. bit_is_played i) is placed);
 }
 
 -- and it is well formed

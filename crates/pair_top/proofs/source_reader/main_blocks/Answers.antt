@@ -16,4 +16,4 @@ unreachable-requires c =
 pub returns-clause-playable : goal.returns-clause-playable
 returns-clause-playable c =
     let e : c.in-Some.blocks ≡ main_program c.args.instructions.now = search rules in
-    rw e (main_is_playable c.args.instructions.now c.requires.count c.requires.placed)
+    rw e (main_is_playable c.args.instructions.now c.requires.placed)

@@ -1,10 +1,13 @@
-use Rattle.std.proofs.Common.{length, ap}
+use Rattle.std.proofs.Common.{◌≡◌, ◌∙◌, ◌++◌, ◌∷◌, [], length, refl, sym, ap}
+use Rattle.std.proofs.lemmas.List.{length-map}
+use Rattle.s7_base.specs.declared.entry.Entry.{Entry}
+use Rattle.pair_core.specs.Played.{answers_of}
 use Rattle.pair_core.specs.World.{part_in, standing_in}
 use Rattle.pair_core.specs.Kept.{setup_of, log_of}
 use Rattle.pair_core.specs.Monitor.{watch_of}
 use Rattle.pair_core.proofs.Answers.{lawful_is, lawful_takes}
 use Rattle.pair_core.proofs.Opens.{going_at, open_room}
-use Rattle.pair_core.proofs.Taking.{can_ask_at, can_take}
+use Rattle.pair_core.proofs.Taking.{can_ask_at, can_take, stands_all, take_added, took, put_added}
 use Rattle.pair_core.proofs.state.State.append.Goals as goal
 
 pub ask-request-requires : goal.ask-request-requires
@@ -29,3 +32,27 @@ add-requires-clause-room c =
     let self = c.args.self.now in
     rw (ap (λ w. w.log.entries) c.answer-answer.ensures.world, ap (λ p. p.plan.end) c.answer-answer.ensures.setup)
     (open_room (setup_of self) (log_of self) c.requires.can.3)
+
+pub returns-clause-at : goal.returns-clause-at
+returns-clause-at c =
+    let self = c.args.self.now in
+    let own = part_in self.parts c.args.side in
+    let es = self.log.entries in
+    let e : Entry = record { request = c.ask-request.result; answer = c.answer-answer.result } in
+    let alive = c.requires.can.0 in
+    let here = c.requires.can.2 in
+    let world = c.answer-answer.ensures.world in
+    let count : length es ≡ length (answers_of es) = sym (length-map es (λ (x : Entry). x.answer)) in
+    let stands = c.ask-request.ensures.stands self.program (answers_of es) (stands_all self.program own es c.args.sub.now c.requires.at alive here) in
+    let own_is : c.get-own.result ≡ own = c.get-own.ensures ∙ ap (λ w. part_in w.parts c.args.side) world in
+    put_added self.program c.add.new.self.program self.parts c.add.new.self.parts c.put.new.self c.args.side c.get-own.result c.len-moment.result es c.add.new.self.log.entries e c.take.new.self
+    (ap (λ p. p.program) c.add.ensures.setup ∙ ap (λ p. p.program) c.answer-answer.ensures.setup)
+    (ap (λ l. l.entries) c.add.ensures.log ∙ ap (λ w. w.log.entries ++ e ∷ []) world)
+    (c.add.ensures.parts ∙ ap (λ w. w.parts) world)
+    own_is
+    (c.len-moment.ensures ∙ sym here ∙ ap (λ o. o.place) (sym own_is))
+    c.put.ensures
+    (took self.program own es (es ++ e ∷ []) e c.ask-request.new.self c.take.new.self c.ask-request.result alive c.requires.can.1
+    (c.ask-request.ensures.lives ∙ c.requires.at.lives) c.ask-request.ensures.waits refl
+    (take_added es own.place e here) c.take.ensures.lives c.take.ensures.going
+    (c.take.ensures.stands self.program (answers_of es) (c.from.ensures ∙ c.len-moment.ensures ∙ count) stands))
