@@ -8,7 +8,7 @@ use Rattle.std.proofs.lemmas.List.{length-map}
 use Rattle.trace_printer.proofs.views.CpuViewTailView.counter_value.Goals as goal
 
 value_at : (counters : List CounterState) (n : ℕ) → (slice_index_or counters n fresh).value ≡ slice_index (map (λ counter. counter.value) counters) n
-value_at [] n = ?
+value_at [] n = refl
 value_at (counter ∷ counters) zero = refl
 value_at (counter ∷ counters) (suc n) = value_at counters n
 
@@ -18,7 +18,7 @@ value_of_tail (Some r) n running = value_at r.config.memory.counters n
 
 few_of_tail : (machine : Option Running) → OfRunning machine (λ running. length running.config.memory.counters ≡ 256) → length (tail_of machine).counters ≤ 256
 few_of_tail None count = absurd count
-few_of_tail (Some r) count = omega (arith, count, length-map (λ (counter : CounterState). counter.value) r.config.memory.counters)
+few_of_tail (Some r) count = omega (arith, count, length-map r.config.memory.counters (λ (counter : CounterState). counter.value))
 
 pub returns-clause-value : goal.returns-clause-value
 returns-clause-value c = c.counter_value.ensures.value ∙ value_of_tail c.args.self.now.side.now.machine c.args.number c.args.self.now.running
