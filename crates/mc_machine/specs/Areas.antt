@@ -4,7 +4,7 @@ use Rattle.status_word.specs.declared.status.StatusWord.{StatusWord}
 use Rattle.status_word.specs.Status.{cleared_status}
 use Rattle.accumulators.specs.declared.accus.Accus.{Accus}
 use Rattle.accumulators.specs.Moves.{cleared_accus}
-use Rattle.bit_unit.specs.State.{BitState, cleared_unit}
+use Rattle.bit_unit.specs.State.{cleared_unit}
 use Rattle.bit_unit.specs.Steps.{is_zone_off}
 use Rattle.timers.specs.State as timers
 use Rattle.counters.specs.State as counters

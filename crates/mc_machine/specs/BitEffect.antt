@@ -1,11 +1,10 @@
 -- What the bit statements do: those on a bit of an area, those on the status word alone, brackets and zones.
-use Rattle.std.specs.Prelude.{ℕ, Bool, true, false, not, ◌&&◌, if◌then◌else◌, Option, unwrap_or, Result, Ok, Err, slice_get}
+use Rattle.std.specs.Prelude.{ℕ, Bool, true, false, not, ◌&&◌, if◌then◌else◌, unwrap_or, Result, Ok, Err, slice_get}
 use Rattle.status_word.specs.declared.status.StatusWord.{StatusWord}
 use Rattle.status_word.specs.BitRows.{checked, or_row, write_row, not_row, set_row, clear_row, save_row, edged, edge_bit}
 use Rattle.status_word.specs.JumpRows.{operands}
 use Rattle.bit_unit.specs.declared.unit.BitFault.{BitFault}
 use Rattle.bit_unit.specs.declared.unit.BitFault.TheVariants.{NestingFull, NestingEmpty, McrFull, McrEmpty}
-use Rattle.bit_unit.specs.State.{BitState}
 use Rattle.bit_unit.specs.Steps.{Step, group_opened, group_closed, zone_opened, zone_closed}
 use Rattle.mc_machine.specs.declared.areas.Registers.{Registers}
 use Rattle.mc_machine.specs.declared.areas.Memory.{Memory}

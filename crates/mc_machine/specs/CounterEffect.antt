@@ -1,5 +1,5 @@
 -- What the statements on counters do.
-use Rattle.std.specs.Prelude.{ℕ, ◌%◌, ◌==◌, Bool, ◌&&◌, not, if◌then◌else◌, Result, Ok, Err, slice_index_or, slice_set}
+use Rattle.std.specs.Prelude.{ℕ, ◌%◌, ◌==◌, ◌&&◌, not, if◌then◌else◌, Result, Ok, Err, slice_index_or, slice_set}
 use Rattle.status_word.specs.BitRows.{checked, timer_row}
 use Rattle.s5_time.specs.Bcd.{is_bcd, bcd_value, bcd_of}
 use Rattle.counters.specs.Rule.{counted_up, counted_down, sets, set_to, reset, enabled}

@@ -1,5 +1,5 @@
 -- What the statements on numbers, words and shifts do.
-use Rattle.std.specs.Prelude.{ℕ, ◌%◌, Bool, if◌then◌else◌, Option, Some, None, Result, Ok, Err}
+use Rattle.std.specs.Prelude.{ℕ, ◌%◌, if◌then◌else◌, Option, Some, None, Result, Ok, Err}
 use Rattle.status_word.specs.NumberRows.{compared}
 use Rattle.accumulators.specs.declared.accus.Accus.{Accus}
 use Rattle.accumulators.specs.Parts.{part, number}

@@ -33,7 +33,6 @@ use Rattle.s7_base.specs.Rows.{row_of}
 use Rattle.s7_base.specs.Instruction.{◌>>=◌}
 use Rattle.status_word.specs.declared.status.Check.{Check}
 use Rattle.status_word.specs.declared.status.Check.TheVariants as checks
-use Rattle.status_word.specs.declared.jumps.Jump.{Jump}
 use Rattle.status_word.specs.declared.jumps.Jump.TheVariants as jump_kinds
 use Rattle.status_word.specs.declared.numbers.Cmp.TheVariants as relations
 use Rattle.accumulators.specs.declared.accus.Move.{Move}
@@ -43,7 +42,6 @@ use Rattle.accumulators.specs.declared.words.Word.{Word}
 use Rattle.accumulators.specs.declared.words.Word.TheVariants as word_ops
 use Rattle.accumulators.specs.declared.shifts.Shift.{Shift}
 use Rattle.accumulators.specs.declared.shifts.Shift.TheVariants as shift_kinds
-use Rattle.timers.specs.declared.kind.TimerKind.{TimerKind}
 use Rattle.timers.specs.declared.kind.TimerKind.TheVariants as timer_kinds
 use Rattle.mc_machine.specs.declared.instruction.ByteArea.{ByteArea}
 use Rattle.mc_machine.specs.declared.instruction.ByteArea.TheVariants.{I, Q, M}
