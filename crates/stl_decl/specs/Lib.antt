@@ -1,3 +1,5 @@
 pub mod Faults
 pub mod Steps
 pub mod Repeat
+pub mod Types
+pub mod Constants

@@ -144,7 +144,7 @@ signed_at text negative first tokens = do
   Ok (record { negative = negative; magnitude = number.0; first = first; last = number.1 }, number.2)
 
 -- a number with a sign or without one
-abbrev pub integer_at : List ℕ → List Token → Result (SignedNumber × List Token) Fault
+unfoldable pub integer_at : List ℕ → List Token → Result (SignedNumber × List Token) Fault
 integer_at text [] = Err (end_fault text)
 integer_at text (t ∷ ts) =
     if is_sign text t (codes "-") then signed_at text true t ts

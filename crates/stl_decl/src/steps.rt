@@ -219,6 +219,7 @@ fn signed_at<'a>(
 }
 
 /// A number with a sign or without one.
+#[tactic(auto, unfolding(crate::specs::Steps::integer_at))]
 pub fn integer_at<'a>(
     text: &[u8],
     tokens: &'a [Token],
