@@ -1,2 +1,3 @@
 pub mod Repeat
 pub mod Starts
+pub mod Names

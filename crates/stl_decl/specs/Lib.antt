@@ -3,3 +3,4 @@ pub mod Steps
 pub mod Repeat
 pub mod Types
 pub mod Constants
+pub mod Layout

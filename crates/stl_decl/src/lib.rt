@@ -3,11 +3,13 @@
 
 mod constants;
 mod fault;
+mod layout;
 mod steps;
 mod types;
 
 pub use constants::{Constant, ConstantForm, Value, begins_integer, constant_of, suits, value_at};
 pub use fault::{DeclError, Fault, FaultKind, StepError};
+pub use layout::{Declaration, FirstValue, Layout};
 pub use steps::{
     SignedNumber, end_fault, fault_at, integer_at, is_pointer, is_sign, is_word, maybe_sign_at,
     maybe_word_at, name_at, next, number_at, number_of, semicolon_at, sign_at, spelling, unfit,
