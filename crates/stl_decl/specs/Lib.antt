@@ -6,3 +6,4 @@ pub mod Types
 pub mod Constants
 pub mod Layout
 pub mod Elements
+pub mod Initials

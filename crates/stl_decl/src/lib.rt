@@ -4,6 +4,7 @@
 mod constants;
 mod elements;
 mod fault;
+mod initials;
 mod layout;
 mod steps;
 mod types;
