@@ -7,3 +7,4 @@ pub mod Constants
 pub mod Layout
 pub mod Elements
 pub mod Initials
+pub mod Declarations

@@ -2,6 +2,7 @@
 #![tactic(auto)]
 
 mod constants;
+mod declarations;
 mod elements;
 mod fault;
 mod initials;
@@ -10,6 +11,7 @@ mod steps;
 mod types;
 
 pub use constants::{Constant, ConstantForm, Value, begins_integer, constant_of, suits, value_at};
+pub use declarations::SectionKind;
 pub use elements::element_at;
 pub use fault::{DeclError, Fault, FaultKind, StepError};
 pub use layout::{Declaration, FirstValue, Layout};
