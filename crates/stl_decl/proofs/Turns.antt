@@ -5,7 +5,11 @@ use Rattle.stl_lex.specs.declared.token.Token.{Token}
 use Rattle.stl_decl.specs.declared.fault.Fault.{Fault}
 use Rattle.stl_decl.specs.declared.layout.FirstValue.{FirstValue}
 use Rattle.stl_decl.specs.declared.initials.Filling.{Filling}
-use Rattle.stl_decl.specs.Steps.{◌>>=◌, maybe_sign_at}
+use Rattle.stl_decl.specs.Steps.{◌>>=◌, maybe_sign_at, maybe_word_at}
+use Rattle.stl_decl.specs.Layout.{Section, Declared, added}
+use Rattle.stl_decl.specs.Declarations.{declaration_at}
+use Rattle.stl_decl.specs.Sections.{end_word, section_by, section_turn}
+use Rattle.stl_decl.specs.declared.declarations.SectionKind.{SectionKind}
 use Rattle.stl_decl.specs.Repeat.{Turn, Ended, Goes}
 use Rattle.stl_decl.specs.Places.{Place}
 use Rattle.stl_decl.specs.Initials.{Filled, initial_at, initial_by, initial_turn, more_filled}
@@ -18,3 +22,18 @@ module _ (text : List ℕ) (variable : Place) (s : Filled × List Token) where
   pub initial_turns : (i : Filling × Token × List Token) → initial_at text variable s.0.filled s.1 ≡ Ok i → (o : Option (Token × List Token)) → o ≡ maybe_sign_at text (codes ",") i.2 → initial_turn text variable s ≡ Ok (initial_by o (more_filled s.0 i.0) i.1 i.2)
   unfolding initial_turn
   initial_turns i is o e = rw is (ap (λ p. Ok (initial_by p (more_filled s.0 i.0) i.1 i.2)) (sym e))
+
+module _ (turns : ℕ) (text : List ℕ) (kind : SectionKind) (s : Section × List Token) where
+  pub section_ends : (x : Token × List Token) → Some x ≡ maybe_word_at text (end_word kind) s.1 → section_turn turns text kind s ≡ Ok (Ended (s.0, x.1))
+  unfolding section_turn
+  section_ends x e = sym (ap (λ o. section_by o turns text kind s) e)
+
+  by_declaration : None ≡ maybe_word_at text (end_word kind) s.1 → section_turn turns text kind s ≡ (declaration_at turns text kind s.0 s.1 >>= λ d. Ok (Goes (added s.0 d.0, d.1)))
+  unfolding section_turn
+  by_declaration e = sym (ap (λ o. section_by o turns text kind s) e)
+
+  pub section_goes : None ≡ maybe_word_at text (end_word kind) s.1 → (d : Declared × List Token) → declaration_at turns text kind s.0 s.1 ≡ Ok d → section_turn turns text kind s ≡ Ok (Goes (added s.0 d.0, d.1))
+  section_goes e d is = rw (by_declaration e, is) refl
+
+  pub section_fails : None ≡ maybe_word_at text (end_word kind) s.1 → (f : Fault) → declaration_at turns text kind s.0 s.1 ≡ Err f → section_turn turns text kind s ≡ Err f
+  section_fails e f is = rw (by_declaration e, is) refl

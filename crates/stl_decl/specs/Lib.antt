@@ -8,3 +8,4 @@ pub mod Layout
 pub mod Elements
 pub mod Initials
 pub mod Declarations
+pub mod Sections

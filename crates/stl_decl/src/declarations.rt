@@ -227,7 +227,7 @@ fn initial_values_at<'a>(
 
 /// decl = name [ Attribute ] ":" type [ ":=" init { "," init } ] ";"
 #[tactic(auto, unfolding(crate::specs::Declarations::declaration_at))]
-fn declaration_at<'a>(
+pub fn declaration_at<'a>(
     alloc: Global,
     text: &[u8],
     turns: usize,

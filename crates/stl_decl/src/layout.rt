@@ -101,6 +101,7 @@ impl Layout {
     pub fn declare(&mut self, declaration: Declaration) -> Result<(), StepError>
         requires { variable_of self.old declaration.name.items ≡ None }
         ensures added { OnOk result (self.new ≡ added self.old (declaration_of declaration)) }
+        ensures end { OnOk result (self.new.end ≤ declaration.variable.first_bit + 524303) }
         ensures err { IsNoFault result }
     {
         let variable = declaration.variable;

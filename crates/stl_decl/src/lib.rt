@@ -7,6 +7,7 @@ mod elements;
 mod fault;
 mod initials;
 mod layout;
+mod sections;
 mod steps;
 mod types;
 
