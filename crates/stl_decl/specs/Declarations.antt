@@ -20,8 +20,8 @@ use Rattle.stl_decl.specs.declared.types.Meaning.TheVariants.{Known, Refused}
 use Rattle.stl_decl.specs.declared.types.TypeRow.{TypeRow}
 use Rattle.stl_decl.specs.declared.layout.FirstValue.{FirstValue}
 use Rattle.stl_decl.specs.declared.layout.Declaration.{Declaration}
-use Rattle.stl_decl.specs.declared.declarations.SectionKind.{SectionKind}
-use Rattle.stl_decl.specs.declared.declarations.SectionKind.TheVariants.{Temporary, Structure}
+use Rattle.stl_decl.specs.declared.grammar.SectionKind.{SectionKind}
+use Rattle.stl_decl.specs.declared.grammar.SectionKind.TheVariants.{Temporary, Structure}
 
 abbrev pub meant : Meaning → Token → List Token → Result (SimpleType × Token × List Token) Fault
 meant (Known simple) t ts = Ok (simple, t, ts)

@@ -236,7 +236,7 @@ pub fn declaration_at<'a>(
     tokens: &'a [Token],
 ) -> Result<(Declaration, &'a [Token]), StepError>
     requires text { length text.now ≤ 1048576 }
-    requires end { layout.now.end < 2 ^ 59 }
+    requires end { layout.now.end < 2 ^ 60 }
     ensures exact { GivesOr declaration_view result (declaration_at turns text.now kind layout.now tokens.now) }
     ensures fresh { IfOk result (λ x. variable_of layout.now x.0.name.items ≡ None) }
     ensures first { IfOk result (λ x. x.0.variable.first_bit ≤ layout.now.end + 15) }
