@@ -9,3 +9,4 @@ pub mod Elements
 pub mod Initials
 pub mod Declarations
 pub mod Sections
+pub mod Bytes

@@ -1,6 +1,7 @@
 //! Reads declarations from tokens: names, types, places and first values.
 #![tactic(auto)]
 
+mod bytes;
 mod constants;
 mod grammar;
 mod elements;
@@ -11,6 +12,7 @@ mod sections;
 mod steps;
 mod types;
 
+pub use bytes::first_bytes;
 pub use constants::{Constant, ConstantForm, Value, begins_integer, constant_of, suits, value_at};
 pub use grammar::SectionKind;
 pub use elements::element_at;
