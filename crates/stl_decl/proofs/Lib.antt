@@ -3,3 +3,4 @@ pub mod Starts
 pub mod Names
 pub mod Turns
 pub mod Writes
+pub mod Laying

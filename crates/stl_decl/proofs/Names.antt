@@ -1,5 +1,5 @@
 -- The names of a layout, as entries of a map and as a list.
-use Rattle.std.proofs.Common.{◌≡◌, ◌∙◌, ℕ, List, [], ◌∷◌, ◌++◌, refl, ap, sym, Bool, true, false, cond, map}
+use Rattle.std.proofs.Common.{◌≡◌, ℕ, List, [], ◌∷◌, ◌++◌, refl, ap, Bool, true, false, cond, map}
 use Rattle.std.specs.Prelude.{Option, Some, None, Vec, if◌then◌else◌}
 use Rattle.std.specs.Option.{option_map}
 use Rattle.std.specs.Map.{lookup}
@@ -8,7 +8,7 @@ use Rattle.std.specs.Str.{bytes_eq}
 use Rattle.indexmap.specs.IndexMap.{insert_entry}
 use Rattle.std.specs.declared.alloc.Global.{Global}
 use Rattle.stl_decl.specs.Places.{Place}
-use Rattle.stl_decl.specs.Layout.{Name, named, Section, Declared, variable_of, added}
+use Rattle.stl_decl.specs.Layout.{Name, named}
 
 by_test : (b : Bool) (e : Vec ℕ Global × Place) (o : Option Place) (p : Option Name) → o ≡ option_map (λ n. n.variable) p → cond b (Some e.1) o ≡ option_map (λ n. n.variable) (cond b (Some (named e)) p)
 by_test true e o p h = refl

@@ -1,6 +1,6 @@
 -- What one turn of a loop of reading comes to.
-use Rattle.std.proofs.Common.{◌≡◌, ◌∙◌, ℕ, List, [], ◌∷◌, ◌++◌, refl, subst, sym, ap}
-use Rattle.std.specs.Prelude.{Result, Ok, Err, Option, Some, None, codes}
+use Rattle.std.proofs.Common.{◌≡◌, ◌∙◌, ℕ, List, refl, sym, ap}
+use Rattle.std.specs.Prelude.{Ok, Err, Option, Some, None, codes}
 use Rattle.stl_lex.specs.declared.token.Token.{Token}
 use Rattle.stl_decl.specs.declared.fault.Fault.{Fault}
 use Rattle.stl_decl.specs.declared.layout.FirstValue.{FirstValue}
@@ -11,7 +11,7 @@ use Rattle.stl_decl.specs.Declarations.{declaration_at}
 use Rattle.stl_decl.specs.Sections.{end_word, section_by, section_turn, section_at, temporaries_turn, temporaries_by, no_section_at, assignment_at, assignments_turn, assignments_by}
 use Rattle.stl_decl.specs.declared.grammar.SectionKind.TheVariants.{Temporary}
 use Rattle.stl_decl.specs.declared.grammar.SectionKind.{SectionKind}
-use Rattle.stl_decl.specs.Repeat.{Turn, Ended, Goes}
+use Rattle.stl_decl.specs.Repeat.{Ended, Goes}
 use Rattle.stl_decl.specs.Places.{Place}
 use Rattle.stl_decl.specs.Initials.{Filled, initial_at, initial_by, initial_turn, more_filled}
 

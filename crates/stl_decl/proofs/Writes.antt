@@ -1,5 +1,5 @@
 -- One more write of a loop.
-use Rattle.std.proofs.Common.{◌≡◌, ◌≤◌, ◌<◌, ℕ, zero, suc, List, [], ◌∷◌, ◌-◌, ◌+◌, ◌/◌, ◌%◌, refl, ap, subst, arith, sym, ◌∙◌, length, drop, get_or, add-one}
+use Rattle.std.proofs.Common.{◌≡◌, ◌≤◌, ◌<◌, ℕ, suc, List, [], ◌-◌, ◌+◌, ◌/◌, ◌%◌, subst, arith, sym, length, drop, get_or, add-one}
 use Rattle.std.specs.Prelude.{slice_set}
 use Rattle.std.proofs.Math.Seq.{drop-cons}
 use Rattle.std.proofs.Math.ListN.{drop_of_length-le}

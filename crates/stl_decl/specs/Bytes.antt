@@ -1,5 +1,5 @@
 -- The bytes that a section has at first: zeros, and its first values, written in their order.
-use Rattle.std.specs.Prelude.{ℕ, zero, suc, List, [], ◌∷◌, ◌+◌, ◌-◌, ◌*◌, ◌/◌, ◌%◌, ◌^◌, ◌==◌, slice_index, slice_set, replicate, bit_and, bit_or, if◌then◌else◌}
+use Rattle.std.specs.Prelude.{ℕ, zero, suc, List, [], ◌∷◌, ◌+◌, ◌-◌, ◌/◌, ◌%◌, ◌^◌, ◌==◌, slice_index, slice_set, replicate, bit_and, bit_or, if◌then◌else◌}
 use Rattle.stl_decl.specs.declared.layout.FirstValue.{FirstValue}
 use Rattle.stl_decl.specs.Layout.{Section, size_of}
 

@@ -1,14 +1,13 @@
 -- Declarations: names with their types, and the sections that they stand in.
-use Rattle.std.specs.Prelude.{◌≡◌, ℕ, List, [], ◌∷◌, ◌++◌, ◌+◌, ◌-◌, ◌||◌, nat_lt, Bool, true, false, pos, Option, Some, None, Result, Ok, Err, if◌then◌else◌, codes, Vec}
+use Rattle.std.specs.Prelude.{ℕ, List, [], ◌∷◌, ◌+◌, ◌-◌, ◌||◌, nat_lt, Bool, true, false, pos, Option, Some, None, Result, Ok, Err, if◌then◌else◌, codes}
 use Rattle.std.specs.Borrow.{Bor}
 use Rattle.stl_lex.specs.declared.piece.TokenKind.{TokenKind}
 use Rattle.stl_lex.specs.declared.piece.TokenKind.TheVariants as kinds
 use Rattle.stl_lex.specs.declared.token.Token.{Token}
-use Rattle.stl_decl.specs.Steps.{◌>>=◌, spelling, upper, end_fault, fault_at, unfit, is_word, is_sign, word_at, sign_at, semicolon_at, name_at, integer_at, maybe_word_at, maybe_sign_at}
-use Rattle.stl_decl.specs.Repeat.{Turn, Ended, Goes, repeated}
+use Rattle.stl_decl.specs.Steps.{◌>>=◌, spelling, upper, end_fault, fault_at, unfit, is_sign, word_at, sign_at, semicolon_at, name_at, integer_at, maybe_word_at, maybe_sign_at}
 use Rattle.stl_decl.specs.Places.{Place}
 use Rattle.stl_decl.specs.Types.{is_int, int_value, rank, type_row, first_bit}
-use Rattle.stl_decl.specs.Layout.{Section, Declared, declaration_of, variable_of, added}
+use Rattle.stl_decl.specs.Layout.{Section, Declared, declaration_of, variable_of}
 use Rattle.stl_decl.specs.Initials.{initials_at}
 use Rattle.stl_decl.specs.declared.fault.Fault.{Fault}
 use Rattle.stl_decl.specs.declared.fault.FaultKind.TheVariants.{UnknownType, DoubleName, BadArray, OutOfScope}

@@ -1,5 +1,5 @@
 -- Elements of declared names.
-use Rattle.std.specs.Prelude.{ℕ, List, ◌-◌, ◌&&◌, ◌||◌, not, nat_lt, nat_le, Option, Some, None, Result, Ok, Err, if◌then◌else◌, codes}
+use Rattle.std.specs.Prelude.{ℕ, List, ◌-◌, ◌||◌, not, nat_lt, nat_le, Option, Some, None, Result, Ok, Err, if◌then◌else◌, codes}
 use Rattle.stl_lex.specs.declared.token.Token.{Token}
 use Rattle.stl_decl.specs.Steps.{◌>>=◌, fault_at, integer_at, sign_at, maybe_sign_at}
 use Rattle.stl_decl.specs.Types.{is_int, int_value, rank}

@@ -5,6 +5,7 @@ pub mod Places
 pub mod Types
 pub mod Constants
 pub mod Layout
+pub mod Laid
 pub mod Elements
 pub mod Initials
 pub mod Declarations

@@ -1,14 +1,14 @@
 -- Sections of declarations, and the assignments of a data block.
-use Rattle.std.specs.Prelude.{◌≡◌, ℕ, length, drop, ◌-◌, List, [], ◌∷◌, ◌||◌, Bool, false, Option, Some, None, Result, Ok, Err, if◌then◌else◌, codes}
+use Rattle.std.specs.Prelude.{◌≡◌, ℕ, length, drop, ◌+◌, ◌-◌, List, [], ◌∷◌, ◌||◌, Bool, false, Option, Some, None, Result, Ok, Err, if◌then◌else◌, codes}
 use Rattle.std.specs.Borrow.{Bor}
 use Rattle.stl_lex.specs.declared.token.Token.{Token}
-use Rattle.stl_decl.specs.Steps.{◌>>=◌, spelling, upper, end_fault, fault_at, unfit, is_word, is_sign, word_at, sign_at, semicolon_at, name_at, maybe_word_at}
+use Rattle.stl_decl.specs.Steps.{◌>>=◌, spelling, upper, end_fault, fault_at, unfit, is_word, is_sign, sign_at, semicolon_at, name_at, maybe_word_at}
 use Rattle.stl_decl.specs.Repeat.{Turn, Ended, Goes, repeated}
 use Rattle.stl_lex.specs.declared.fault.LoadFault.{LoadFault}
 use Rattle.stl_decl.specs.Places.{Place}
 use Rattle.stl_decl.specs.Types.{bits_of, element_bit}
 use Rattle.stl_decl.specs.Elements.{element_at}
-use Rattle.stl_decl.specs.Layout.{Section, Declared, empty_section, added, assigned, variable_of}
+use Rattle.stl_decl.specs.Layout.{Section, empty_section, added, assigned, variable_of}
 use Rattle.stl_decl.specs.Initials.{value_of_type_at}
 use Rattle.stl_decl.specs.Declarations.{declaration_at}
 use Rattle.stl_decl.specs.declared.layout.FirstValue.{FirstValue}
@@ -118,10 +118,10 @@ abbrev pub begins_structure : List ℕ → List Token → Bool
 begins_structure text [] = false
 begins_structure text (t ∷ ts) = is_word text t (codes "STRUCT")
 
--- the section that begins here: at most as many turns are made as there are tokens
+-- the section that begins here; each turn of a loop takes a token, so one more than there are is enough
 unfoldable pub layout_at : List ℕ → List Token → Result (Section × List Token) Fault
 layout_at text tokens =
-    if begins_structure text tokens then structure_at (length tokens) text tokens else temporaries_at (length tokens) text tokens
+    if begins_structure text tokens then structure_at (length tokens + 1) text tokens else temporaries_at (length tokens + 1) text tokens
 
 -- the section that begins at this token, and the number of the token behind it
 unfoldable pub declarations_of : List ℕ → List Token → ℕ → Result (Section × ℕ) Fault

@@ -5,14 +5,12 @@ ghost use Rattle.stl_decl.specs.Types.{is_int};
 ghost use Rattle.stl_decl.specs.Constants.{stored, timer_start, is_negative, characters_value, inside_quotes, characters, hexadecimal, unsigned_value, time_value, literal_by, literal_constant, word_constant, constant_of, begins_integer, integer_constant, integer_value_at, single_value, value_at, suits};
 
 use crate::fault::{Fault, FaultKind};
-use crate::steps::{
-    SignedNumber, end_fault, fault_at, integer_at, is_sign, next, spelling, unfit,
-};
+use crate::steps::{SignedNumber, end_fault, fault_at, integer_at, is_sign, next, spelling, unfit};
 use crate::types::{SimpleType, is_int};
 use s5_time::{bcd3, from_millis, write};
 use stl_lex::{
-    CEILING, Literal, LiteralValue, TIME_UNITS, TimeUnit, Token, TokenKind, after, digit_count, letters_of,
-    literal_of, milliseconds, spells, unsigned, value_of,
+    CEILING, Literal, LiteralValue, TIME_UNITS, TimeUnit, Token, TokenKind, after, digit_count,
+    letters_of, literal_of, milliseconds, spells, unsigned, value_of,
 };
 
 /// How a constant is written.

@@ -1,7 +1,7 @@
 //! Declarations: names with their types, and the sections that they stand in.
 ghost use Rattle.std.specs.Prelude.{◌≡◌, ◌≤◌, ◌<◌, ◌+◌, ◌^◌, length, IfOk, None, true};
 ghost use Rattle.stl_decl.specs.Steps.{Gives, GivesOr, seen, at_rest};
-ghost use Rattle.stl_decl.specs.Types.{is_int};
+ghost use Rattle.stl_decl.specs.Types.{is_int, first_bit};
 ghost use Rattle.stl_decl.specs.Layout.{variable_of};
 ghost use Rattle.stl_decl.specs.Initials.{initials_view};
 ghost use Rattle.stl_decl.specs.Declarations.{simple_at, bound_at, count_between, closing_at, array_at, plain_at, shape_at, refusal, skip_attribute, fresh_name, given_at, initial_values_at, declaration_at, declaration_view};
@@ -30,7 +30,10 @@ pub enum SectionKind {
 
 /// A type that is no array.
 #[tactic(auto, unfolding(crate::specs::Declarations::simple_at))]
-fn simple_at<'a>(text: &[u8], tokens: &'a [Token]) -> Result<(SimpleType, Token, &'a [Token]), Fault>
+fn simple_at<'a>(
+    text: &[u8],
+    tokens: &'a [Token],
+) -> Result<(SimpleType, Token, &'a [Token]), Fault>
     requires { length text.now ≤ 1048576 }
     ensures { Gives seen result (simple_at text.now tokens.now) }
 {
@@ -240,6 +243,7 @@ pub fn declaration_at<'a>(
     ensures exact { GivesOr declaration_view result (declaration_at turns text.now kind layout.now tokens.now) }
     ensures fresh { IfOk result (λ x. variable_of layout.now x.0.name.items ≡ None) }
     ensures first { IfOk result (λ x. x.0.variable.first_bit ≤ layout.now.end + 15) }
+    ensures placed { IfOk result (λ x. x.0.variable.first_bit ≡ first_bit x.0.variable.shape layout.now.end) }
 {
     let (first, rest) = name_at(text, tokens)?;
     let name = fresh_name(alloc, text, layout, first)?;

@@ -7,9 +7,7 @@ ghost use Rattle.stl_decl.specs.Initials.{is_repetition, has_room, suited, value
 use crate::constants::{Constant, Value, suits, value_at};
 use crate::fault::{Fault, FaultKind, StepError};
 use crate::layout::FirstValue;
-use crate::steps::{
-    end_fault, fault_at, is_sign, maybe_sign_at, next, number_of, sign_at, unfit,
-};
+use crate::steps::{end_fault, fault_at, is_sign, maybe_sign_at, next, number_of, sign_at, unfit};
 use crate::types::{SimpleType, Variable, element_bit};
 use std::alloc::Global;
 use stl_lex::{Token, TokenKind};
@@ -131,11 +129,7 @@ fn single_initial_at<'a>(
         return Err(unfit(text, token));
     }
     let (value, rest) = value_of_type_at(text, variable.shape.simple, tokens)?;
-    Ok((
-        fill(variable, filled, 1, value.constant),
-        value.last,
-        rest,
-    ))
+    Ok((fill(variable, filled, 1, value.constant), value.last, rest))
 }
 
 /// init = value | n "(" value ")"

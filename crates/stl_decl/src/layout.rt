@@ -1,7 +1,8 @@
 //! The layout of a section: its names in order, with their places and first values.
 ghost use Rattle.std.specs.Prelude.{◌≡◌, ◌≤◌, ◌<◌, ◌+◌, ◌^◌, min, map, OnOk, None};
 ghost use Rattle.stl_decl.specs.Steps.{IsNoFault};
-ghost use Rattle.stl_decl.specs.Types.{end_bit};
+ghost use Rattle.stl_decl.specs.Types.{first_bit};
+ghost use Rattle.stl_decl.specs.Laid.{AreLaid, AreApart, AreAligned};
 ghost use Rattle.stl_decl.specs.Layout.{named, declaration_of, empty_section, variable_of, size_of, added, assigned};
 
 use crate::fault::StepError;
@@ -41,12 +42,13 @@ pub struct Layout {
 impl Model for Layout {
     ghost use Rattle.std.specs.Prelude.{map, ◌<◌, ◌^◌};
     ghost use Rattle.stl_decl.specs.Layout.{Section, named};
+    ghost use Rattle.stl_decl.specs.Laid.{AreLaid};
 
     ghost Value = { Section };
 
     ghost view = { λ l. record { names = map named l.names.entries; end = l.end; values = l.values.items } };
 
-    ghost invariant = { λ l. l.end < 2 ^ 62 };
+    ghost invariant = { λ l. (l.end < 2 ^ 62) × AreLaid 0 (map named l.names.entries) l.end };
 }
 
 impl Layout {
@@ -70,7 +72,13 @@ impl Layout {
 
     /// The names in order, each with what it stands for. Takes no memory.
     pub fn names(&self) -> Slice<'_, Vec<u8>, Variable>
-        ensures { map named result ≡ self.now.names }
+        ensures names { map named result ≡ self.now.names }
+        // each behind the one before, at the next place of its type
+        ensures laid { AreLaid 0 self.now.names self.now.end }
+        // no two overlap
+        ensures apart { AreApart self.now.names }
+        // each at a place of its type and within the section
+        ensures aligned { AreAligned self.now.end self.now.names }
     {
         self.names.as_slice()
     }
@@ -99,13 +107,15 @@ impl Layout {
 
     /// Adds a name that isn't there yet behind the others.
     pub fn declare(&mut self, declaration: Declaration) -> Result<(), StepError>
-        requires { variable_of self.old declaration.name.items ≡ None }
+        requires fresh { variable_of self.old declaration.name.items ≡ None }
+        requires placed { declaration.variable.first_bit ≡ first_bit declaration.variable.shape self.old.end }
         ensures added { OnOk result (self.new ≡ added self.old (declaration_of declaration)) }
         ensures end { OnOk result (self.new.end ≤ declaration.variable.first_bit + 524303) }
         ensures err { IsNoFault result }
     {
         let variable = declaration.variable;
-        self.values.extend_from_slice(declaration.values.as_slice())?;
+        self.values
+            .extend_from_slice(declaration.values.as_slice())?;
         self.names.insert(declaration.name, variable)?;
         self.end = end_bit(variable.shape, variable.first_bit);
         Ok(())

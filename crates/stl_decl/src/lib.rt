@@ -3,9 +3,9 @@
 
 mod bytes;
 mod constants;
-mod grammar;
 mod elements;
 mod fault;
+mod grammar;
 mod initials;
 mod layout;
 mod sections;
@@ -14,9 +14,9 @@ mod types;
 
 pub use bytes::first_bytes;
 pub use constants::{Constant, ConstantForm, Value, begins_integer, constant_of, suits, value_at};
-pub use grammar::SectionKind;
 pub use elements::element_at;
 pub use fault::{DeclError, Fault, FaultKind, StepError};
+pub use grammar::SectionKind;
 pub use layout::{Declaration, FirstValue, Layout};
 pub use sections::{assignments_at, declarations, structure_at, temporaries_at};
 pub use steps::{
@@ -25,6 +25,9 @@ pub use steps::{
     upper, word_at,
 };
 pub use types::{
-    Meaning, Shape, SimpleType, TYPES, TypeRow, Variable, element_bit, end_bit, first_bit, int_value,
-    is_int, rank, round_up, type_row,
+    Meaning, Shape, SimpleType, TYPES, TypeRow, Variable, element_bit, end_bit, first_bit,
+    int_value, is_int, rank, round_up, type_row,
 };
+
+#[cfg(test)]
+mod tests;

@@ -4,9 +4,9 @@ ghost use Rattle.stl_decl.specs.Steps.{Gives, GivesOr, at_rest};
 ghost use Rattle.stl_decl.specs.Faults.{told_of};
 ghost use Rattle.stl_decl.specs.Sections.{end_word, section_at, layout_view, is_other_section, is_left_out, no_section_at, temporaries_at, opening_at, skip_semicolon, structure_at, declared_name, assignment_at, assignments_at, begins_structure, layout_at, declarations_of, Tells};
 
-use crate::grammar::{SectionKind, declaration_at};
 use crate::elements::element_at;
 use crate::fault::{DeclError, Fault, FaultKind, StepError};
+use crate::grammar::{SectionKind, declaration_at};
 use crate::initials::value_of_type_at;
 use crate::layout::{FirstValue, Layout};
 use crate::steps::{
@@ -36,10 +36,10 @@ fn section_at<'a>(
     tokens: &'a [Token],
 ) -> Result<(Layout, &'a [Token]), StepError>
     requires text { length text.now ≤ 1048576 }
-    requires turns { turns ≤ 1048576 }
+    requires turns { turns ≤ 1048577 }
     requires end { layout.end < 2 ^ 59 + 2 ^ 58 }
     ensures exact { GivesOr layout_view result (section_at turns text.now kind layout tokens.now) }
-    ensures small { IfOk result (λ x. x.0.end ≤ layout.end + 2 ^ 39 + 2 ^ 26) }
+    ensures small { IfOk result (λ x. x.0.end ≤ layout.end + 2 ^ 39 + 2 ^ 27) }
 {
     let mut layout = layout;
     let mut rest = tokens;
@@ -85,7 +85,7 @@ pub fn temporaries_at<'a>(
     tokens: &'a [Token],
 ) -> Result<(Layout, &'a [Token]), StepError>
     requires text { length text.now ≤ 1048576 }
-    requires turns { turns ≤ 1048576 }
+    requires turns { turns ≤ 1048577 }
     ensures { GivesOr layout_view result (temporaries_at turns text.now tokens.now) }
 {
     let mut layout = Layout::new(alloc);
@@ -146,7 +146,7 @@ pub fn structure_at<'a>(
     tokens: &'a [Token],
 ) -> Result<(Layout, &'a [Token]), StepError>
     requires text { length text.now ≤ 1048576 }
-    requires turns { turns ≤ 1048576 }
+    requires turns { turns ≤ 1048577 }
     ensures { GivesOr layout_view result (structure_at turns text.now tokens.now) }
 {
     let (_, rest) = opening_at(text, tokens)?;
@@ -245,9 +245,9 @@ fn layout_at<'a>(
     ensures { GivesOr layout_view result (layout_at text.now tokens.now) }
 {
     if begins_structure(text, tokens) {
-        structure_at(alloc, text, tokens.len(), tokens)
+        structure_at(alloc, text, tokens.len() + 1, tokens)
     } else {
-        temporaries_at(alloc, text, tokens.len(), tokens)
+        temporaries_at(alloc, text, tokens.len() + 1, tokens)
     }
 }
 

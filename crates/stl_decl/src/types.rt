@@ -160,11 +160,11 @@ pub fn end_bit(shape: Shape, first: u64) -> u64
     ensures exact { result ≡ end_bit shape first }
     ensures within { result ≤ first + 524303 }
 {
-    let end = first + shape.count as u64 * shape.simple.bits();
+    let last = first + shape.count as u64 * shape.simple.bits();
     if shape.is_array {
-        round_up(16, end)
+        round_up(16, last)
     } else {
-        end
+        last
     }
 }
 

@@ -1,4 +1,4 @@
-use Rattle.std.proofs.Common.{◌≡◌, ◌≤◌, ◌<◌, arith, rules, Fits, w64}
+use Rattle.std.proofs.Common.{arith, rules, Fits, w64}
 use Rattle.stl_decl.proofs.Writes.{fill_more, fill_done}
 use Rattle.stl_decl.proofs.bytes.fill_elements.Goals as goal
 

@@ -1,4 +1,4 @@
-use Rattle.std.proofs.Common.{◌≡◌, arith}
+use Rattle.std.proofs.Common.{arith}
 use Rattle.stl_decl.proofs.Writes.{written_more, written_done}
 use Rattle.stl_decl.proofs.bytes.write_all.Goals as goal
 

@@ -1,6 +1,6 @@
-use Rattle.std.proofs.Common.{◌≡◌, ◌≤◌, ◌<◌, ◌/◌, ℕ, refl, sym, arith, min, subst}
-use Rattle.s5_time.specs.Duration.{word_of, unit_millis}
-use Rattle.stl_decl.specs.Constants.{timer_start, start_word, smallest_base}
+use Rattle.std.proofs.Common.{◌≡◌, ◌≤◌, ◌<◌, ◌/◌, ℕ, refl, min}
+use Rattle.s5_time.specs.Duration.{unit_millis}
+use Rattle.stl_decl.specs.Constants.{timer_start, smallest_base}
 use Rattle.stl_decl.proofs.Starts.{smallest_base_is}
 use Rattle.stl_decl.proofs.constants.timer_start.Goals as goal
 

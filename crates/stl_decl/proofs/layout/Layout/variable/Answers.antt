@@ -1,4 +1,4 @@
-use Rattle.std.proofs.Common.{◌≡◌, ◌∙◌, ap}
+use Rattle.std.proofs.Common.{◌∙◌, ap}
 use Rattle.std.specs.Str.{bytes_eq}
 use Rattle.stl_decl.specs.Layout.{variable_of, Section}
 use Rattle.stl_decl.proofs.Names.{lookup_named}
