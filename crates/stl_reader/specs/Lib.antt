@@ -1,0 +1,6 @@
+pub mod Forms
+pub mod Words
+pub mod Mnemonics
+pub mod Addresses
+pub mod Constants
+pub mod Operands

@@ -1,0 +1,9 @@
+//! Reads the body of a code block from tokens: statements, labels and jumps, or the first fault.
+#![tactic(auto)]
+
+mod addresses;
+mod constants;
+mod forms;
+mod mnemonics;
+mod operands;
+mod words;
