@@ -1,3 +1,4 @@
 pub mod Repeat
 pub mod Starts
 pub mod Names
+pub mod Turns

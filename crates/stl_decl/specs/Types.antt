@@ -6,7 +6,7 @@ use Rattle.stl_decl.specs.declared.steps.SignedNumber.{SignedNumber}
 use Rattle.stl_decl.specs.declared.types.SimpleType.{SimpleType}
 use Rattle.stl_decl.specs.declared.types.SimpleType.TheVariants as types
 use Rattle.stl_decl.specs.declared.types.Shape.{Shape}
-use Rattle.stl_decl.specs.declared.types.Variable.{Variable}
+use Rattle.stl_decl.specs.Places.{Place}
 use Rattle.stl_decl.specs.declared.types.TypeRow.{TypeRow}
 use Rattle.stl_decl.specs.declared.types.TheConstants.{TYPES}
 
@@ -47,7 +47,7 @@ end_bit shape first =
     if shape.is_array then round_up 16 end else end
 
 -- the bit that element k begins at
-abbrev pub element_bit : Variable → ℕ → ℕ
+abbrev pub element_bit : Place → ℕ → ℕ
 element_bit v k = v.first_bit + k * bits_of v.shape.simple
 
 -- the row of the table that a word has

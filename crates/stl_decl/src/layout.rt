@@ -99,9 +99,7 @@ impl Layout {
 
     /// Adds a name that isn't there yet behind the others.
     pub fn declare(&mut self, declaration: Declaration) -> Result<(), StepError>
-        requires fresh { variable_of self.old declaration.name.items ≡ None }
-        requires first { declaration.variable.first_bit < 2 ^ 60 }
-        requires count { declaration.variable.shape.count ≤ 8192 }
+        requires { variable_of self.old declaration.name.items ≡ None }
         ensures added { OnOk result (self.new ≡ added self.old (declaration_of declaration)) }
         ensures err { IsNoFault result }
     {

@@ -2,12 +2,15 @@
 #![tactic(auto)]
 
 mod constants;
+mod elements;
 mod fault;
+mod initials;
 mod layout;
 mod steps;
 mod types;
 
 pub use constants::{Constant, ConstantForm, Value, begins_integer, constant_of, suits, value_at};
+pub use elements::element_at;
 pub use fault::{DeclError, Fault, FaultKind, StepError};
 pub use layout::{Declaration, FirstValue, Layout};
 pub use steps::{

@@ -4,6 +4,7 @@ ghost use Rattle.stl_decl.specs.Types.{bits_of, round_up, first_bit, end_bit, ty
 
 use crate::fault::FaultKind;
 use crate::steps::SignedNumber;
+use std::marker::Model;
 use stl_lex::{letters_of, spells};
 
 /// The types that are no arrays.
@@ -34,11 +35,25 @@ pub struct Shape {
     pub count: u32,
 }
 
-/// What a declared name stands for: its type, and the bit of its section that it begins at.
+/// What a declared name stands for: its type, and the bit of its section that it begins at. It has at most 8,192
+/// elements and begins below bit 2 ^ 60.
 #[derive(Clone, Copy, Debug, PartialEq, Eq)]
 pub struct Variable {
     pub first_bit: u64,
     pub shape: Shape,
+}
+
+impl Model for Variable {
+    ghost use Rattle.std.specs.Prelude.{◌≤◌, ◌<◌, ◌^◌};
+    ghost use Rattle.stl_decl.specs.Places.{Place};
+
+    ghost Value = { Place };
+
+    ghost view = { λ v. record { first_bit = v.first_bit; shape = v.shape } };
+
+    ghost invariant = { λ v. (v.first_bit < 2 ^ 60) × (v.shape.count ≤ 8192) };
+
+    ghost inverse = { λ p. record { first_bit = p.first_bit; shape = p.shape } };
 }
 
 /// What a word in a type's place means.
@@ -155,9 +170,8 @@ pub fn end_bit(shape: Shape, first: u64) -> u64
 
 /// The bit that element k begins at.
 pub fn element_bit(variable: Variable, k: u32) -> u64
-    requires first { variable.first_bit < 2 ^ 62 }
-    requires k { k ≤ 8192 }
-    ensures { result ≡ element_bit variable k }
+    ensures exact { result ≡ element_bit variable k }
+    ensures within { result < 2 ^ 61 }
 {
     variable.first_bit + k as u64 * variable.shape.simple.bits()
 }
