@@ -4,3 +4,5 @@ pub mod Mnemonics
 pub mod Addresses
 pub mod Constants
 pub mod Operands
+pub mod Locals
+pub mod Statements

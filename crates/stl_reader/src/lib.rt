@@ -4,6 +4,8 @@
 mod addresses;
 mod constants;
 mod forms;
+mod locals;
 mod mnemonics;
 mod operands;
+mod statements;
 mod words;
