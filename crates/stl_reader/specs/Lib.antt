@@ -6,3 +6,4 @@ pub mod Constants
 pub mod Operands
 pub mod Locals
 pub mod Statements
+pub mod Items

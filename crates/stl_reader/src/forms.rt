@@ -116,7 +116,10 @@ fn takes(kind: OperandKind, form: OperandForm) -> bool
 fn takes_none(kind: OperandKind) -> bool
     ensures { result ≡ takes_none kind }
 {
-    matches!(kind, OperandKind::Nothing | OperandKind::AtMost(_) | OperandKind::Mask)
+    matches!(
+        kind,
+        OperandKind::Nothing | OperandKind::AtMost(_) | OperandKind::Mask
+    )
 }
 
 /// Whether there are operands of the kind.

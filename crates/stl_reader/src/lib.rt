@@ -4,8 +4,11 @@
 mod addresses;
 mod constants;
 mod forms;
+mod items;
 mod locals;
 mod mnemonics;
 mod operands;
 mod statements;
 mod words;
+
+pub use items::BodyStatement;

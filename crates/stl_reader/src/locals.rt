@@ -10,7 +10,8 @@ use crate::operands::takes_memory;
 use s7_base::OperandArea;
 use std::alloc::Global;
 use stl_decl::{
-    Fault, FaultKind, Layout, SimpleType, StepError, Variable, element_at, element_bit, fault_at, spelling, upper,
+    Fault, FaultKind, Layout, SimpleType, StepError, Variable, element_at, element_bit, fault_at,
+    spelling, upper,
 };
 use stl_lex::{Token, after};
 
@@ -76,7 +77,11 @@ fn variable_operand<'a>(
         return Err(fault_at(FaultKind::BadOperand, first));
     }
     let (k, last, rest) = element_at(text, variable.shape, first, rest)?;
-    Ok((local_at(variable.shape.simple, element_bit(variable, k)), last, rest))
+    Ok((
+        local_at(variable.shape.simple, element_bit(variable, k)),
+        last,
+        rest,
+    ))
 }
 
 /// A name that is declared, or none.

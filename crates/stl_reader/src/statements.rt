@@ -157,10 +157,7 @@ fn operand_at<'a>(
         return Err(StepError::Fault(end_fault(text)));
     };
     if is_real(text, tokens) {
-        return Err(StepError::Fault(fault_at(
-            FaultKind::RealInstruction,
-            first,
-        )));
+        return Err(StepError::Fault(fault_at(FaultKind::RealInstruction, first)));
     }
     kind_operand(alloc, text, temps, mnemonic, first, rest, tokens)
 }
@@ -213,9 +210,8 @@ fn operation_of(mnemonic: [u8; 5], locals: u32, operand: Operand) -> Option<usiz
     ensures within { IfSome result (λ n. n < 128) }
 {
     let statement = stored(0, operand);
-    INSTRUCTIONS
-        .iter()
-        .position(|row| row.mnemonic == mnemonic && statement.has_operand(row.operand, locals))
+    INSTRUCTIONS.iter().position(|row| row.mnemonic == mnemonic
+        && statement.has_operand(row.operand, locals))
 }
 
 /// The operation with this operand, whose first token is `first`.
