@@ -7,3 +7,5 @@ pub mod Operands
 pub mod Locals
 pub mod Statements
 pub mod Items
+pub mod Contents
+pub mod Reading

@@ -3,12 +3,16 @@
 
 mod addresses;
 mod constants;
+mod contents;
 mod forms;
 mod items;
 mod locals;
 mod mnemonics;
 mod operands;
+mod reading;
 mod statements;
 mod words;
 
+pub use contents::{Body, Jump, Label};
 pub use items::BodyStatement;
+pub use reading::{ReadError, body};
