@@ -1,5 +1,5 @@
 -- The parts of an operand.
-use Rattle.std.specs.Prelude.{ℕ, List, [], ◌∷◌, ◌&&◌, min, nat_le, Bool, Option, None, Result, Ok, Err, if◌then◌else◌, codes}
+use Rattle.std.specs.Prelude.{ℕ, List, [], ◌∷◌, ◌&&◌, min, nat_le, Bool, Result, Ok, Err, if◌then◌else◌, codes}
 use Rattle.std.specs.Str.{bytes_eq}
 use Rattle.stl_lex.specs.declared.token.Token.{Token}
 use Rattle.stl_decl.specs.declared.fault.Fault.{Fault}
@@ -10,6 +10,10 @@ use Rattle.stl_reader.specs.declared.words.OperandWord.{OperandWord}
 use Rattle.stl_reader.specs.declared.addresses.Operand.{Operand}
 use Rattle.stl_reader.specs.declared.addresses.TheConstants.{CALL}
 use Rattle.stl_reader.specs.Forms.{accepts}
+
+-- the name of no label
+abbrev pub no_name : List ℕ
+no_name = 0 ∷ 0 ∷ 0 ∷ 0 ∷ []
 
 -- a token that can't stand in an operand; the list of parameters of a CALL is left out of the language
 abbrev pub refused : List ℕ → List ℕ → Token → Fault
@@ -51,7 +55,7 @@ address text mnemonic (t ∷ ts) = if is_sign text t (codes "[") then Err (fault
 
 -- an operand that is a word alone
 abbrev pub word_operand : OperandWord → Operand
-word_operand row = record { area = row.area; bit = row.unit; db = 0; value = row.value; label = None }
+word_operand row = record { area = row.area; bit = row.unit; db = 0; value = row.value; name = no_name }
 
 -- byte "." bit, behind the word of an area, which is the operand's first token
 unfoldable pub bit_operand : List ℕ → List ℕ → OperandWord → Token → List Token → Result (Operand × Token × List Token) Fault
@@ -60,10 +64,10 @@ bit_operand text mnemonic row first tokens = do
   dot ← part_sign text mnemonic (codes ".") byte.2
   bit ← part_number text mnemonic dot.1
   small ← judged (nat_le bit.0 7) first
-  Ok (record { area = row.area; bit = bit.0; db = 0; value = byte.0; label = None }, bit.1, bit.2)
+  Ok (record { area = row.area; bit = bit.0; db = 0; value = byte.0; name = no_name }, bit.1, bit.2)
 
 -- a number behind the word of an area
 unfoldable pub byte_operand : List ℕ → List ℕ → OperandWord → List Token → Result (Operand × Token × List Token) Fault
 byte_operand text mnemonic row tokens = do
   number ← address text mnemonic tokens
-  Ok (record { area = row.area; bit = row.unit; db = 0; value = number.0; label = None }, number.1, number.2)
+  Ok (record { area = row.area; bit = row.unit; db = 0; value = number.0; name = no_name }, number.1, number.2)

@@ -17,7 +17,7 @@ use Rattle.stl_reader.specs.declared.forms.OperandForm.TheVariants as forms
 use Rattle.stl_reader.specs.declared.words.StatusSign.{StatusSign}
 use Rattle.stl_reader.specs.declared.addresses.Operand.{Operand}
 use Rattle.stl_reader.specs.Words.{status_sign}
-use Rattle.stl_reader.specs.Addresses.{refused, taken}
+use Rattle.stl_reader.specs.Addresses.{no_name, refused, taken}
 
 abbrev pub is_real_kind : TokenKind → Bool
 is_real_kind kinds.RealPart = true
@@ -65,7 +65,7 @@ area_of (constants.Characters count) = if nat_lt 2 count then areas.DoubleWord e
 area_of _ = areas.Word
 
 abbrev pub constant_operand : Constant → Operand
-constant_operand c = record { area = area_of c.form; bit = 0; db = 0; value = c.value; label = None }
+constant_operand c = record { area = area_of c.form; bit = 0; db = 0; value = c.value; name = no_name }
 
 -- a number from -32,768 to 32,767
 unfoldable pub number_operand : List ℕ → List Token → Result (Operand × Token × List Token) Fault
@@ -103,7 +103,7 @@ unfoldable pub status_operand : List ℕ → List ℕ → StatusSign → Token �
 status_operand text mnemonic row first tokens = do
   status ← taken text mnemonic forms.Status first
   zero ← zero_at text mnemonic tokens
-  Ok (record { area = areas.Status; bit = 0; db = 0; value = row.value; label = None }, zero.0, zero.1)
+  Ok (record { area = areas.Status; bit = 0; db = 0; value = row.value; name = no_name }, zero.0, zero.1)
 
 -- a number with a sign
 unfoldable pub signed_operand : List ℕ → List ℕ → Token → List Token → Result (Operand × Token × List Token) Fault

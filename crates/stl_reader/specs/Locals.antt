@@ -15,6 +15,7 @@ use Rattle.stl_reader.specs.declared.forms.OperandForm.{OperandForm}
 use Rattle.stl_reader.specs.declared.forms.OperandForm.TheVariants as forms
 use Rattle.stl_reader.specs.declared.addresses.Operand.{Operand}
 use Rattle.stl_reader.specs.Forms.{accepts}
+use Rattle.stl_reader.specs.Addresses.{no_name}
 use Rattle.stl_reader.specs.Operands.{takes_memory}
 
 -- the form of operand that a name of the type is; names of 8 bytes are none
@@ -36,7 +37,7 @@ local_at simple bit = record {
   bit = local_unit simple bit;
   db = 0;
   value = min (bit / 8) 4294967295;
-  label = None;
+  name = no_name;
 }
 
 -- a name of this form may stand behind the mnemonic

@@ -17,7 +17,7 @@ use Rattle.stl_reader.specs.declared.words.OperandWord.{OperandWord}
 use Rattle.stl_reader.specs.declared.addresses.Operand.{Operand}
 use Rattle.stl_reader.specs.Forms.{accepts}
 use Rattle.stl_reader.specs.Words.{operand_word}
-use Rattle.stl_reader.specs.Addresses.{refused, taken, judged, is_data_number, part_sign, part_word, address, word_operand, bit_operand, byte_operand}
+use Rattle.stl_reader.specs.Addresses.{no_name, refused, taken, judged, is_data_number, part_sign, part_word, address, word_operand, bit_operand, byte_operand}
 
 -- what stands behind a word of the table, by its form
 abbrev pub plain_operand : OperandForm → List ℕ → List ℕ → OperandWord → Token → List Token → Result (Operand × Token × List Token) Fault
@@ -35,7 +35,7 @@ instance_operand text mnemonic row first tokens = do
   db ← part_word text mnemonic (codes "DB") comma.1
   data_block ← address text mnemonic db.1
   known ← judged (is_data_number data_block.0) first
-  Ok (record { area = row.area; bit = row.unit; db = data_block.0; value = number.0; label = None }, data_block.1, data_block.2)
+  Ok (record { area = row.area; bit = row.unit; db = data_block.0; value = number.0; name = no_name }, data_block.1, data_block.2)
 
 -- the language has the system functions 43 and 46, behind CALL; all others are left out
 abbrev pub system_judged : List ℕ → ℕ → Token → Result (Unit {0}) Fault
@@ -135,7 +135,7 @@ label_name _ = None
 abbrev pub label_operand : Option (List ℕ) → Token → List Token → Result (Operand × Token × List Token) Fault
 label_operand None first rest = Err (fault_at BadOperand first)
 label_operand (Some name) first rest =
-    Ok (record { area = areas.Target; bit = 0; db = 0; value = 0; label = Some name }, first, rest)
+    Ok (record { area = areas.Target; bit = 0; db = 0; value = 0; name = name }, first, rest)
 
 abbrev pub word_by : Option OperandWord → List ℕ → List ℕ → Token → List Token → Result (Operand × Token × List Token) Fault
 word_by (Some row) text mnemonic first rest = row_operand row.form text mnemonic row first rest

@@ -6,7 +6,7 @@ use Rattle.std.specs.Str.{bytes_eq}
 use Rattle.s7_base.specs.declared.operands.OperandArea.TheVariants as areas
 use Rattle.s7_base.specs.declared.statement.Statement.{Statement}
 use Rattle.s7_base.specs.declared.table.TheConstants.{INSTRUCTIONS}
-use Rattle.s7_base.specs.Operands.{allows, area_number}
+use Rattle.s7_base.specs.Operands.{allows, area_number, is_in}
 use Rattle.stl_lex.specs.Bytes.{spells}
 use Rattle.stl_lex.specs.declared.piece.TokenKind.{TokenKind}
 use Rattle.stl_lex.specs.declared.piece.TokenKind.TheVariants as kinds
@@ -21,7 +21,7 @@ use Rattle.stl_reader.specs.declared.addresses.TheConstants.{CALL}
 use Rattle.stl_reader.specs.Forms.{takes_operand, may_be_alone}
 use Rattle.stl_reader.specs.Words.{operand_word, status_sign}
 use Rattle.stl_reader.specs.Mnemonics.{mnemonic_at}
-use Rattle.stl_reader.specs.Addresses.{refused}
+use Rattle.stl_reader.specs.Addresses.{no_name, refused}
 use Rattle.stl_reader.specs.Constants.{is_plus_or_minus, is_figure_next, is_real, is_zero_next, unsigned_operand, single_operand, sign_operand}
 use Rattle.stl_reader.specs.Operands.{data_number, area_operand}
 use Rattle.stl_reader.specs.Locals.{local_operand}
@@ -91,7 +91,7 @@ abbrev pub wants_operand : List ℕ → List ℕ → List Token → Bool
 wants_operand text mnemonic tokens = takes_operand mnemonic && (not (may_be_alone mnemonic) || begins_operand text tokens)
 
 abbrev pub no_operand : Operand
-no_operand = record { area = areas.Nothing; bit = 0; db = 0; value = 0; label = None }
+no_operand = record { area = areas.Nothing; bit = 0; db = 0; value = 0; name = no_name }
 
 -- [ operand ] behind the mnemonic, whose last token is `last`
 unfoldable pub argument_at : List ℕ → Section → List ℕ → Token → List Token → Result (Operand × Token × List Token) Fault
@@ -125,6 +125,10 @@ closing_at text mnemonic last [] = semicolon_at text last []
 closing_at text mnemonic last (t ∷ ts) =
     if bytes_eq mnemonic CALL && is_sign text t (codes "(") then Err (fault_at OutOfScope t) else semicolon_at text last (t ∷ ts)
 
+-- the label that a statement jumps to, if it is a jump
+abbrev pub target_of : Statement → List ℕ → Option (List ℕ)
+target_of s name = if is_in areas.Target s then Some name else None
+
 abbrev pub parted : Statement × Option (List ℕ) × Bor (List Token) → Statement × Option (List ℕ) × List Token
 parted x = (x.0, x.1, x.2.now)
 
@@ -136,4 +140,4 @@ statement_at text locals temps tokens = do
   operand ← argument_at text temps mnemonic.0 mnemonic.1 mnemonic.2
   op ← operation_at mnemonic.0 locals operand.0 (first_of mnemonic.1 mnemonic.2)
   rest ← closing_at text mnemonic.0 operand.1 operand.2
-  Ok (stored op operand.0, operand.0.label, rest)
+  Ok (stored op operand.0, target_of (stored op operand.0) operand.0.name, rest)

@@ -12,14 +12,17 @@ use stl_lex::{Token, TokenKind};
 /// The mnemonic behind which a list of parameters would stand.
 pub const CALL: [u8; 5] = *b"CALL\0";
 
-/// An operand as it is stored, and the name of the label that it is.
+/// The name of no label.
+pub const NO_NAME: [u8; 4] = [0; 4];
+
+/// An operand as it is stored. Where it is the target of a jump, it has the name of its label.
 #[derive(Clone, Copy, Debug, PartialEq, Eq)]
 pub struct Operand {
     pub area: OperandArea,
     pub bit: u8,
     pub db: u16,
     pub value: u32,
-    pub label: Option<[u8; 4]>,
+    pub name: [u8; 4],
 }
 
 /// The fault of a token that can't stand in an operand.
@@ -148,7 +151,7 @@ pub fn word_operand(row: OperandWord) -> Operand
         bit: row.unit,
         db: 0,
         value: row.value,
-        label: None,
+        name: NO_NAME,
     }
 }
 
@@ -176,7 +179,7 @@ pub fn bit_operand<'a>(
             bit: bit as u8,
             db: 0,
             value: byte,
-            label: None,
+            name: NO_NAME,
         },
         last,
         rest,
@@ -201,7 +204,7 @@ pub fn byte_operand<'a>(
             bit: row.unit,
             db: 0,
             value: number,
-            label: None,
+            name: NO_NAME,
         },
         last,
         rest,

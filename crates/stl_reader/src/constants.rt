@@ -4,7 +4,7 @@ ghost use Rattle.stl_decl.specs.Steps.{Gives, seen, at_rest};
 ghost use Rattle.stl_decl.specs.Constants.{constant_of};
 ghost use Rattle.stl_reader.specs.Constants.{is_plus_or_minus, is_figure_next, is_fraction, is_unsigned_real, is_real, form_of, area_of, constant_operand, number_operand, unsigned_operand, single_operand, is_zero, is_zero_next, zero_at, status_operand, signed_operand, sign_operand};
 
-use crate::addresses::{Operand, refused, taken};
+use crate::addresses::{NO_NAME, Operand, refused, taken};
 use crate::forms::OperandForm;
 use crate::words::{StatusSign, status_sign};
 use s7_base::OperandArea;
@@ -98,7 +98,7 @@ fn constant_operand(constant: Constant) -> Operand
         bit: 0,
         db: 0,
         value: constant.value,
-        label: None,
+        name: NO_NAME,
     }
 }
 
@@ -201,7 +201,7 @@ fn status_operand<'a>(
             bit: 0,
             db: 0,
             value: row.value,
-            label: None,
+            name: NO_NAME,
         },
         last,
         rest,

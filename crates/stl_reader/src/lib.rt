@@ -16,3 +16,6 @@ mod words;
 pub use contents::{Body, Jump, Label};
 pub use items::BodyStatement;
 pub use reading::{ReadError, body};
+
+#[cfg(test)]
+mod tests;

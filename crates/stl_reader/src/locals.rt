@@ -4,7 +4,7 @@ ghost use Rattle.stl_decl.specs.Steps.{Gives, GivesOr, seen, spelling};
 ghost use Rattle.stl_decl.specs.Layout.{variable_of};
 ghost use Rattle.stl_reader.specs.Locals.{local_form, local_unit, local_at, suits_mnemonic, variable_operand, named_local, local_operand};
 
-use crate::addresses::Operand;
+use crate::addresses::{NO_NAME, Operand};
 use crate::forms::{OperandForm, accepts};
 use crate::operands::takes_memory;
 use s7_base::OperandArea;
@@ -47,7 +47,7 @@ fn local_at(simple: SimpleType, bit: u64) -> Operand
         bit: local_unit(simple, bit),
         db: 0,
         value: (bit / 8).min(u32::MAX as u64) as u32,
-        label: None,
+        name: NO_NAME,
     }
 }
 

@@ -1,9 +1,9 @@
 //! Statements: a mnemonic, its operand, and `;`.
 ghost use Rattle.std.specs.Prelude.{◌≡◌, ◌≤◌, ◌<◌, length, IfSome};
 ghost use Rattle.stl_decl.specs.Steps.{Gives, GivesOr, seen};
-ghost use Rattle.stl_reader.specs.Statements.{is_number_next, is_bit_next, is_point_next, begins_word, begins_sign, begins_operand, fixed_operand, kind_operand, operand_at, wants_operand, argument_at, stored, operation_of, operation_at, first_of, closing_at, statement_at, parted};
+ghost use Rattle.stl_reader.specs.Statements.{is_number_next, is_bit_next, is_point_next, begins_word, begins_sign, begins_operand, fixed_operand, kind_operand, operand_at, wants_operand, argument_at, stored, operation_of, operation_at, first_of, closing_at, target_of, statement_at, parted};
 
-use crate::addresses::{CALL, Operand, refused};
+use crate::addresses::{CALL, NO_NAME, Operand, refused};
 use crate::constants::{
     is_figure_next, is_plus_or_minus, is_real, is_zero_next, sign_operand, single_operand,
     unsigned_operand,
@@ -26,7 +26,7 @@ const NO_OPERAND: Operand = Operand {
     bit: 0,
     db: 0,
     value: 0,
-    label: None,
+    name: NO_NAME,
 };
 
 /// Whether a number comes next.
@@ -258,6 +258,17 @@ fn closing_at<'a>(
     }
 }
 
+/// The label that the statement jumps to, if it is a jump.
+fn target_of(statement: Statement, name: [u8; 4]) -> Option<[u8; 4]>
+    ensures { result ≡ target_of statement name }
+{
+    if statement.area == OperandArea::Target.number() {
+        Some(name)
+    } else {
+        None
+    }
+}
+
 /// mnemonic [ operand ] ";", in a block with so many bytes of local data: the statement, the label that it jumps to,
 /// and the rest.
 #[tactic(auto, unfolding(crate::specs::Statements::statement_at))]
@@ -276,5 +287,6 @@ pub fn statement_at<'a>(
     let (operand, last, rest) = argument_at(alloc, text, temps, mnemonic, last, rest)?;
     let op = operation_at(mnemonic, locals, operand, first)?;
     let rest = closing_at(text, mnemonic, last, rest)?;
-    Ok((stored(op, operand), operand.label, rest))
+    let statement = stored(op, operand);
+    Ok((statement, target_of(statement, operand.name), rest))
 }

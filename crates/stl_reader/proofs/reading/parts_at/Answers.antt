@@ -16,8 +16,8 @@ returns-in_err-item c =
     let all = parts_at c.args.text.now c.args.kind c.args.temps.now c.args.tokens.now in
     record {
       exact = rw (p.1, p.2) (fails_with contents_view all (part_at c.args.text.now c.args.kind c.args.temps.now c.loop-turn.rest.now) c.in_err-item.field-0.0 c.in_err-item.ensures.exact
-        (λ f is. fails (end_fault c.args.text.now) (body_turn c.args.text.now c.args.kind c.args.temps.now) s all (length c.args.tokens.now) c.loop-turn._turn c.loop-turn.invariant.0 (omega arith) f
-        (turn_fails c.args.text.now c.args.kind c.args.temps.now s f is)));
+          (λ f is. fails (end_fault c.args.text.now) (body_turn c.args.text.now c.args.kind c.args.temps.now) s all (length c.args.tokens.now) c.loop-turn._turn c.loop-turn.invariant.0 (omega arith) f
+          (turn_fails c.args.text.now c.args.kind c.args.temps.now s f is)));
     }
 
 pub returns-in_default : goal.returns-in_default
