@@ -9,3 +9,4 @@ pub mod Statements
 pub mod Items
 pub mod Contents
 pub mod Reading
+pub mod Sound
