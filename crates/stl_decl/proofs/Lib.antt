@@ -2,3 +2,4 @@ pub mod Repeat
 pub mod Starts
 pub mod Names
 pub mod Turns
+pub mod Writes

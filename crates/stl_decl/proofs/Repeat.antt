@@ -8,10 +8,10 @@ use Rattle.stl_decl.specs.Steps.{◌>>=◌, Fails, GivesOr}
 use Rattle.stl_decl.specs.Repeat.{Turn, Ended, Goes, repeated}
 
 -- a turn is left
-one_left : (n k : ℕ) → k < n → n - k ≡ suc (n - (k + 1))
+pub one_left : (n k : ℕ) → k < n → n - k ≡ suc (n - (k + 1))
 one_left n k h = omega arith
 
-none_left : (n k : ℕ) → n ≤ k → n - k ≡ zero
+pub none_left : (n k : ℕ) → n ≤ k → n - k ≡ zero
 none_left n k h = omega arith
 
 module _ {S A : Type 0} (late : Fault) (turn : S → Result (Turn S A) Fault) (s : S) (all : Result A Fault) (n k : ℕ) (here : repeated late turn (n - k) s ≡ all) where

@@ -1,13 +1,9 @@
 -- The kinds of faults behind the tokens, and what is told of a fault.
-use Rattle.std.specs.Prelude.{ℕ}
+use Rattle.std.specs.Prelude.{ℕ, Result, Ok, Err}
 use Rattle.stl_lex.specs.declared.fault.LoadFault.{LoadFault}
 use Rattle.stl_decl.specs.declared.fault.FaultKind.{FaultKind}
 use Rattle.stl_decl.specs.declared.fault.FaultKind.TheVariants.{UnknownType, RealType, DoubleName, BadArray, UnknownInstruction, RealInstruction, BadOperand, UnknownName, MissingSemicolon, DoubleBlock, DoubleLabel, NoLabel, JumpTooFar, NoOb1, TooManyBlocks, TooLarge, OutOfScope}
 use Rattle.stl_decl.specs.declared.fault.Fault.{Fault}
-use Rattle.stl_decl.specs.declared.fault.StepError.{StepError}
-use Rattle.stl_decl.specs.declared.fault.StepError.TheVariants as steps
-use Rattle.stl_decl.specs.declared.fault.DeclError.{DeclError}
-use Rattle.stl_decl.specs.declared.fault.DeclError.TheVariants as declines
 
 -- the numbers of the kinds
 abbrev pub kind_number : FaultKind → ℕ
@@ -33,7 +29,7 @@ kind_number OutOfScope = 21
 abbrev pub told : Fault → LoadFault
 told f = record { kind = kind_number f.kind; line = f.line }
 
--- what the reading of declarations answers where a step of it ended so
-abbrev pub declined : StepError → DeclError
-declined (steps.Fault f) = declines.Fault (told f)
-declined steps.NoMemory = declines.NoMemory
+-- what is told of reading that may fail
+abbrev pub told_of : {A : Type 0} → Result A Fault → Result A LoadFault
+told_of (Ok x) = Ok x
+told_of (Err f) = Err (told f)

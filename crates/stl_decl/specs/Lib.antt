@@ -7,3 +7,6 @@ pub mod Constants
 pub mod Layout
 pub mod Elements
 pub mod Initials
+pub mod Declarations
+pub mod Sections
+pub mod Bytes

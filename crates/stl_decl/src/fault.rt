@@ -141,16 +141,3 @@ pub enum DeclError {
     #[error("out of memory")]
     NoMemory,
 }
-
-impl From<StepError> for DeclError {
-    ghost use Rattle.stl_decl.specs.Faults.{declined};
-
-    ghost from_gives = { λ e d. d ≡ declined e };
-
-    fn from(error: StepError) -> Self {
-        match error {
-            StepError::Fault(fault) => DeclError::Fault(fault.told()),
-            StepError::NoMemory => DeclError::NoMemory,
-        }
-    }
-}

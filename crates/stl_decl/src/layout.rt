@@ -46,7 +46,7 @@ impl Model for Layout {
 
     ghost view = { λ l. record { names = map named l.names.entries; end = l.end; values = l.values.items } };
 
-    ghost invariant = { λ l. l.end < 2 ^ 61 };
+    ghost invariant = { λ l. l.end < 2 ^ 62 };
 }
 
 impl Layout {
@@ -78,7 +78,7 @@ impl Layout {
     /// The bit behind the last name.
     pub fn end(&self) -> u64
         ensures exact { result ≡ self.now.end }
-        ensures within { result < 2 ^ 61 }
+        ensures within { result < 2 ^ 62 }
     {
         self.end
     }
@@ -101,6 +101,7 @@ impl Layout {
     pub fn declare(&mut self, declaration: Declaration) -> Result<(), StepError>
         requires { variable_of self.old declaration.name.items ≡ None }
         ensures added { OnOk result (self.new ≡ added self.old (declaration_of declaration)) }
+        ensures end { OnOk result (self.new.end ≤ declaration.variable.first_bit + 524303) }
         ensures err { IsNoFault result }
     {
         let variable = declaration.variable;

@@ -1,18 +1,24 @@
 //! Reads declarations from tokens: names, types, places and first values.
 #![tactic(auto)]
 
+mod bytes;
 mod constants;
+mod grammar;
 mod elements;
 mod fault;
 mod initials;
 mod layout;
+mod sections;
 mod steps;
 mod types;
 
+pub use bytes::first_bytes;
 pub use constants::{Constant, ConstantForm, Value, begins_integer, constant_of, suits, value_at};
+pub use grammar::SectionKind;
 pub use elements::element_at;
 pub use fault::{DeclError, Fault, FaultKind, StepError};
 pub use layout::{Declaration, FirstValue, Layout};
+pub use sections::{assignments_at, declarations, structure_at, temporaries_at};
 pub use steps::{
     SignedNumber, end_fault, fault_at, integer_at, is_pointer, is_sign, is_word, maybe_sign_at,
     maybe_word_at, name_at, next, number_at, number_of, semicolon_at, sign_at, spelling, unfit,

@@ -36,7 +36,7 @@ pub struct Shape {
 }
 
 /// What a declared name stands for: its type, and the bit of its section that it begins at. It has at most 8,192
-/// elements and begins below bit 2 ^ 60.
+/// elements and begins below bit 2 ^ 61.
 #[derive(Clone, Copy, Debug, PartialEq, Eq)]
 pub struct Variable {
     pub first_bit: u64,
@@ -51,7 +51,7 @@ impl Model for Variable {
 
     ghost view = { λ v. record { first_bit = v.first_bit; shape = v.shape } };
 
-    ghost invariant = { λ v. (v.first_bit < 2 ^ 60) × (v.shape.count ≤ 8192) };
+    ghost invariant = { λ v. (v.first_bit < 2 ^ 61) × (v.shape.count ≤ 8192) };
 
     ghost inverse = { λ p. record { first_bit = p.first_bit; shape = p.shape } };
 }
@@ -171,7 +171,7 @@ pub fn end_bit(shape: Shape, first: u64) -> u64
 /// The bit that element k begins at.
 pub fn element_bit(variable: Variable, k: u32) -> u64
     ensures exact { result ≡ element_bit variable k }
-    ensures within { result < 2 ^ 61 }
+    ensures within { result < 2 ^ 62 }
 {
     variable.first_bit + k as u64 * variable.shape.simple.bits()
 }
