@@ -1,5 +1,5 @@
 -- What holds of each body that is read.
-use Rattle.std.proofs.Common.{◌≡◌, ◌≤◌, ◌+◌, ℕ, zero, suc, List, [], ◌∷◌, ◌++◌, length, map, refl, subst, ap, sym, ◌∙◌, Bool, true, false, cond, arith, length-append, append_assoc, add-zero, zero-add, drop}
+use Rattle.std.proofs.Common.{◌≡◌, ◌≤◌, ◌+◌, ℕ, zero, suc, List, [], ◌∷◌, ◌++◌, length, map, refl, subst, ap, sym, ◌∙◌, Bool, true, false, cond, arith, length-append, append_assoc, add-zero, zero-add}
 use Rattle.std.specs.Prelude.{Result, Ok, Err, Option, Some, None, All, IsTrue, codes}
 use Rattle.std.specs.Option.{option_to_list}
 use Rattle.std.proofs.lemmas.List.{map-append}
@@ -22,7 +22,7 @@ use Rattle.stl_reader.specs.declared.contents.Jump.{Jump}
 use Rattle.stl_reader.specs.Statements.{target_of, statement_at}
 use Rattle.stl_reader.specs.Items.{end_word, block_locals, label_at, bare, labelled_item, labelled_at, item_by, item_at, is_heading, part_at}
 use Rattle.stl_reader.specs.Contents.{Contents}
-use Rattle.stl_reader.specs.Reading.{empty, labels_of, jumps_of, adds, turned, body_turn, parts_at, tells, behind, body_of}
+use Rattle.stl_reader.specs.Reading.{empty, labels_of, jumps_of, adds, turned, body_turn, parts_at}
 use Rattle.stl_reader.specs.Sound.{jump_place, jump_places, IsSound}
 use Rattle.stl_reader.proofs.Language.{bind_ok, IsRead, statement_takes}
 
@@ -138,14 +138,3 @@ module _ (text : List ℕ) (kind : CodeKind) (temps : Section) where
 
   pub parts_sound : (tokens : List Token) (x : Contents × List Token) → parts_at text kind temps tokens ≡ Ok x → IsSound (block_locals kind temps) x.0
   parts_sound tokens x e = sound_repeated (end_fault text) (length tokens) (empty, tokens) x (nothing_sound (block_locals kind temps)) e
-
-  told_ok : {A : Type 0} (r : Result A Fault) (y : A) → tells r ≡ Ok y → r ≡ Ok y
-  told_ok (Ok x) y e = let same : x ≡ y = cc in ap (λ z. Ok z) same
-  told_ok (Err f) y e = absurd cc
-
-  -- the body that is read
-  pub body_sound : (tokens : List Token) (from : ℕ) (x : Contents × ℕ) → body_of text tokens from kind temps ≡ Ok x → IsSound (block_locals kind temps) x.0
-  body_sound tokens from x e =
-      let parts = bind_ok (parts_at text kind temps (drop from tokens)) (λ y. Ok (behind tokens y)) x (told_ok (parts_at text kind temps (drop from tokens) >>= λ y. Ok (behind tokens y)) x e) in
-      let same : behind tokens parts.0 ≡ x = let f = parts.2 in cc in
-      subst (λ y. IsSound (block_locals kind temps) y.0) same (parts_sound (drop from tokens) parts.0 parts.1)

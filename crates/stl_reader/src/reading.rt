@@ -1,8 +1,10 @@
 //! The body of a code block.
-ghost use Rattle.std.specs.Prelude.{◌≡◌, ◌≤◌, ◌<◌, ◌+◌, ◌^◌, ◌++◌, length, OnOk};
+ghost use Rattle.std.specs.Prelude.{◌≡◌, ◌≤◌, ◌<◌, ◌+◌, ◌^◌, ◌++◌, length, IfOk, OnOk};
 ghost use Rattle.std.specs.Option.{option_to_list};
 ghost use Rattle.stl_decl.specs.Steps.{GivesOr, IsNoFault};
 ghost use Rattle.stl_reader.specs.Contents.{contents_of};
+ghost use Rattle.stl_reader.specs.Items.{block_locals};
+ghost use Rattle.stl_reader.specs.Sound.{IsSound};
 ghost use Rattle.stl_reader.specs.Reading.{labels_of, jumps_of, adds, parts_at, contents_view, body_of, Gives};
 
 use crate::contents::{Body, Jump, Label, Lists};
@@ -145,6 +147,9 @@ pub fn body(
     requires tokens { length tokens.now ≤ 1048576 }
     requires from { from ≤ length tokens.now }
     ensures exact { Gives result (body_of text.now tokens.now from kind temps.now) }
+    // Its statements are of the language, its labels and jumps are in their places.
+    ensures sound { IfOk result (λ x. IsSound (block_locals kind temps.now) x.0) }
+    ensures within { IfOk result (λ x. x.1 ≤ length tokens.now) }
 {
     let tokens = tokens.as_slice();
     let (lists, rest) = parts_at(alloc, text, kind, temps, &tokens[from as usize..])?;
