@@ -31,13 +31,13 @@ impl Statement {
         self.is_in(area) && self.ends_by(size, bytes)
     }
 
-    fn is_of_cpu(&self, locals: u16, bytes: u8) -> bool
+    fn is_of_cpu(&self, locals: u32, bytes: u8) -> bool
         ensures { result ≡ is_of_cpu locals bytes self.now }
     {
         self.is_within(OperandArea::Inputs, 64, bytes)
             || self.is_within(OperandArea::Outputs, 64, bytes)
             || self.is_within(OperandArea::Memory, 1024, bytes)
-            || self.is_within(OperandArea::Local, u32::from(locals), bytes)
+            || self.is_within(OperandArea::Local, locals, bytes)
     }
 
     fn is_of_data(&self, bytes: u8) -> bool
@@ -48,13 +48,13 @@ impl Statement {
             || self.is_within(OperandArea::Instance, 65536, bytes) && self.db == 0
     }
 
-    fn is_memory(&self, locals: u16, bytes: u8) -> bool
+    fn is_memory(&self, locals: u32, bytes: u8) -> bool
         ensures { result ≡ is_memory locals bytes self.now }
     {
         self.is_of_cpu(locals, bytes) && self.db == 0 || self.is_of_data(bytes)
     }
 
-    fn is_bit(&self, locals: u16) -> bool
+    fn is_bit(&self, locals: u32) -> bool
         ensures { result ≡ is_bit locals self.now }
     {
         self.bit <= 7 && self.is_memory(locals, 1)
@@ -71,7 +71,7 @@ impl Statement {
         }
     }
 
-    fn is_value(&self, locals: u16) -> bool
+    fn is_value(&self, locals: u32) -> bool
         ensures { result ≡ is_value locals self.now }
     {
         self.unit_bytes() > 0 && self.is_memory(locals, self.unit_bytes())
@@ -128,7 +128,7 @@ impl Statement {
             || self.is_exactly(OperandArea::InstanceNumber, 0)
     }
 
-    fn is_loaded(&self, locals: u16) -> bool
+    fn is_loaded(&self, locals: u32) -> bool
         ensures { result ≡ allows OperandKind.Loaded locals self.now }
     {
         self.is_value(locals)
@@ -139,7 +139,7 @@ impl Statement {
             || self.is_about_data()
     }
 
-    fn is_stored(&self, locals: u16) -> bool
+    fn is_stored(&self, locals: u32) -> bool
         ensures { result ≡ allows OperandKind.Stored locals self.now }
     {
         self.is_value(locals)
@@ -157,7 +157,7 @@ impl Statement {
     }
 
     /// Whether the operand, as it is stored, is of the kind, in a block with so many bytes of local data.
-    pub fn has_operand(&self, kind: OperandKind, locals: u16) -> bool
+    pub fn has_operand(&self, kind: OperandKind, locals: u32) -> bool
         ensures { result ≡ allows kind locals self.now }
     {
         match kind {

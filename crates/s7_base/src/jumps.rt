@@ -15,7 +15,7 @@ impl Statement {
         ensures { result ≡ is_statement locals self.now }
     {
         match instruction_row(self.op) {
-            Some(row) => self.has_operand(row.operand, locals),
+            Some(row) => self.has_operand(row.operand, u32::from(locals)),
             None => false,
         }
     }

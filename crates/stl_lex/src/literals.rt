@@ -188,7 +188,7 @@ fn value_form(value: LiteralValue, bytes: &[u8]) -> Form
 
 /// The row of the table with whose prefix a run begins.
 #[tactic(auto, unfolding(crate::specs::Literals::literal_of))]
-fn literal_of(run: &[u8]) -> Option<Literal>
+pub fn literal_of(run: &[u8]) -> Option<Literal>
     ensures { result ≡ literal_of run.now }
 {
     LITERALS

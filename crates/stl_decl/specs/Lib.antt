@@ -1,0 +1,13 @@
+pub mod Faults
+pub mod Steps
+pub mod Repeat
+pub mod Places
+pub mod Types
+pub mod Constants
+pub mod Layout
+pub mod Laid
+pub mod Elements
+pub mod Initials
+pub mod Declarations
+pub mod Sections
+pub mod Bytes

@@ -1,0 +1,12 @@
+pub mod Forms
+pub mod Words
+pub mod Mnemonics
+pub mod Addresses
+pub mod Constants
+pub mod Operands
+pub mod Locals
+pub mod Statements
+pub mod Items
+pub mod Contents
+pub mod Reading
+pub mod Sound
