@@ -1,6 +1,6 @@
 -- What an answer's text tells.
 use Rattle.std.proofs.Common.{◌≡◌, ◌∙◌, ℕ, ◌+◌, ◌^◌, ◌<◌, Bool, true, false, List, ◌∷◌, ◌++◌, length, refl, ap, sym, subst, arith, inl}
-use Rattle.std.specs.Prelude.{◌&&◌, MatchBool, get_or, codes}
+use Rattle.std.specs.Prelude.{Option, ◌&&◌, MatchBool, get_or, codes}
 use Rattle.std.specs.Fmt.{decimal}
 use Rattle.std.proofs.lemmas.List.{append_assoc, append_cancel_left}
 use Rattle.std.proofs.lemmas.List.FromFn.{length-map-range_with_len}
@@ -19,7 +19,9 @@ use Rattle.plant_script.specs.Plan.{Plan}
 use Rattle.plant_script.specs.InputImage.{image_byte, input_image}
 use Rattle.pair_core.specs.declared.standing.Standing.{Standing}
 use Rattle.pair_core.specs.Cuts.{is_cut}
-use Rattle.pair_core.specs.Lawful.{IsPlainAnswer, IsLawfulAnswer}
+use Rattle.s7_base.specs.declared.entry.StopCode.TheVariants as stops
+use Rattle.pair_core.specs.Monitor.{is_overdue}
+use Rattle.pair_core.specs.Lawful.{IsPlainAnswer, IsMonitoredAnswer, IsLawfulAnswer}
 use Rattle.pair_core.specs.Image.{hex, image}
 use Rattle.pair_core.specs.EntryText.{side_word, stop_word, lost_text, answer_text}
 use Rattle.trace_laws.proofs.Splits.{Free, IsMark, line_feed, free_by, free_word, free_append, split_at}
@@ -205,8 +207,11 @@ by_test : (t : Bool) (k : ℕ) (a lost : Answer) (P : Type 0) → IsTold k lost 
 by_test true k a lost P told left is = told_as k a lost is told
 by_test false k a lost P told left is = left is
 
-pub lawful_told : (plan : Plan) (st : Standing) (k : ℕ) (ask : Ask) (a : Answer) → IsLawfulAnswer plan st k ask a → IsTold k a
-lawful_told plan st k ask a is =
+monitored_told : (plan : Plan) (watch : Option ℕ) (k : ℕ) (ask : Ask) (a : Answer) → IsMonitoredAnswer plan watch k ask a → IsTold k a
+monitored_told plan watch k ask a is = by_test (is_overdue watch k) k a (answers.CpuStop stops.Cycle) (IsPlainAnswer plan k ask a) tt (plain_told plan k ask a) is
+
+pub lawful_told : (plan : Plan) (st : Standing) (watch : Option ℕ) (k : ℕ) (ask : Ask) (a : Answer) → IsLawfulAnswer plan st watch k ask a → IsTold k a
+lawful_told plan st watch k ask a is =
     by_test (st.a && st.b && is_cut plan A k) k a (answers.Lost A Failed)
-    (MatchBool (st.a && st.b && is_cut plan B k) (a ≡ answers.Lost B Failed) (IsPlainAnswer plan k ask a)) tt
-    (by_test (st.a && st.b && is_cut plan B k) k a (answers.Lost B Failed) (IsPlainAnswer plan k ask a) tt (plain_told plan k ask a)) is
+    (MatchBool (st.a && st.b && is_cut plan B k) (a ≡ answers.Lost B Failed) (IsMonitoredAnswer plan watch k ask a)) tt
+    (by_test (st.a && st.b && is_cut plan B k) k a (answers.Lost B Failed) (IsMonitoredAnswer plan watch k ask a) tt (monitored_told plan watch k ask a)) is

@@ -166,13 +166,13 @@ by_lines program other first second one two tell e =
 pub text_determines : (program : Program) (first second : Run) → TextDetermines program first second
 text_determines program first second one two e =
     by_lines program program first second one two
-    (by_program program [] 0 first.plan second.plan (first_standing first.solo) (first_standing second.solo) None None first.entries second.entries
+    (by_program program [] 0 first.plan second.plan (first_standing first.solo) (first_standing second.solo) None None None None first.entries second.entries
     one.run.requests one.run.lawful two.run.requests two.run.lawful)
     e
 
 pub text_alone_determines : (program other : Program) (first second : Run) → TextAloneDetermines program other first second
 text_alone_determines program other first second one ranges two ranges' e =
     by_lines program other first second one two
-    (by_range 0 first.plan second.plan (first_standing first.solo) (first_standing second.solo) None None first.entries second.entries
+    (by_range 0 first.plan second.plan (first_standing first.solo) (first_standing second.solo) None None None None first.entries second.entries
     ranges one.run.lawful ranges' two.run.lawful)
     e
