@@ -1,5 +1,5 @@
 -- What is read as a statement is one of the language.
-use Rattle.std.proofs.Common.{◌≡◌, ◌<◌, ℕ, List, [], ◌∷◌, length, refl, subst, ap, sym, ◌∙◌, Bool, true, get_or, ◌&&◌}
+use Rattle.std.proofs.Common.{◌≡◌, ℕ, List, [], refl, subst, ap, sym, ◌∙◌, Bool, true, get_or, ◌&&◌}
 use Rattle.std.specs.Prelude.{Result, Ok, Err, Option, Some, None, slice_get}
 use Rattle.std.specs.List.{position}
 use Rattle.std.specs.Str.{bytes_eq}

@@ -6,20 +6,17 @@ use Rattle.std.proofs.lemmas.List.{map-append}
 use Rattle.std.proofs.lemmas.List.Elements.{All-append, All-nil, All-cons}
 use Rattle.s7_base.specs.declared.blocks.CodeKind.{CodeKind}
 use Rattle.s7_base.specs.declared.operands.OperandArea.TheVariants.{Target}
-use Rattle.s7_base.specs.declared.statement.Statement.{Statement}
 use Rattle.s7_base.specs.Operands.{is_in}
 use Rattle.s7_base.specs.Statements.{is_statement}
 use Rattle.stl_lex.specs.declared.token.Token.{Token}
 use Rattle.stl_decl.specs.declared.fault.Fault.{Fault}
 use Rattle.stl_decl.specs.Steps.{◌>>=◌, is_word, is_sign, end_fault}
-use Rattle.stl_decl.specs.Repeat.{Turn, Ended, Goes, repeated}
+use Rattle.stl_decl.specs.Repeat.{Ended, Goes, repeated}
 use Rattle.stl_decl.specs.Layout.{Section}
 use Rattle.stl_reader.specs.declared.items.BodyStatement.{BodyStatement}
 use Rattle.stl_reader.specs.declared.items.LabelName.{LabelName}
 use Rattle.stl_reader.specs.declared.items.Item.{Item}
-use Rattle.stl_reader.specs.declared.contents.Label.{Label}
-use Rattle.stl_reader.specs.declared.contents.Jump.{Jump}
-use Rattle.stl_reader.specs.Statements.{target_of, statement_at}
+use Rattle.stl_reader.specs.Statements.{statement_at}
 use Rattle.stl_reader.specs.Items.{end_word, block_locals, label_at, bare, labelled_item, labelled_at, item_by, item_at, is_heading, part_at}
 use Rattle.stl_reader.specs.Contents.{Contents}
 use Rattle.stl_reader.specs.Reading.{empty, labels_of, jumps_of, adds, turned, body_turn, parts_at}

@@ -1,10 +1,10 @@
 -- What one turn of a body comes to.
 use Rattle.std.proofs.Common.{◌≡◌, ℕ, List, refl}
-use Rattle.std.specs.Prelude.{Option, Some, None, Result, Ok, Err}
+use Rattle.std.specs.Prelude.{Some, None, Ok, Err}
 use Rattle.s7_base.specs.declared.blocks.CodeKind.{CodeKind}
 use Rattle.stl_lex.specs.declared.token.Token.{Token}
 use Rattle.stl_decl.specs.declared.fault.Fault.{Fault}
-use Rattle.stl_decl.specs.Repeat.{Turn, Ended, Goes}
+use Rattle.stl_decl.specs.Repeat.{Ended, Goes}
 use Rattle.stl_decl.specs.Layout.{Section}
 use Rattle.stl_reader.specs.declared.items.Item.{Item}
 use Rattle.stl_reader.specs.Items.{part_at}

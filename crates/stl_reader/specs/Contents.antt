@@ -1,5 +1,5 @@
 -- What a body is seen as.
-use Rattle.std.specs.Prelude.{List, Vec}
+use Rattle.std.specs.Prelude.{List}
 use Rattle.stl_reader.specs.declared.items.BodyStatement.{BodyStatement}
 use Rattle.stl_reader.specs.declared.contents.Label.{Label}
 use Rattle.stl_reader.specs.declared.contents.Jump.{Jump}

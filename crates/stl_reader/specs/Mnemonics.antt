@@ -1,10 +1,8 @@
 -- Mnemonics: the longest run of adjacent tokens that is one. The tables are constants of the code.
 use Rattle.std.specs.Prelude.{ℕ, List, [], ◌∷◌, ◌==◌, Option, Some, None, Result, Ok, Err, if◌then◌else◌}
 use Rattle.std.specs.List.{find}
-use Rattle.std.specs.Option.{option_map}
 use Rattle.stl_lex.specs.Bytes.{spells, letters_of}
 use Rattle.stl_lex.specs.declared.token.Token.{Token}
-use Rattle.stl_decl.specs.declared.fault.FaultKind.{FaultKind}
 use Rattle.stl_decl.specs.declared.fault.FaultKind.TheVariants.{UnknownInstruction}
 use Rattle.stl_decl.specs.declared.fault.Fault.{Fault}
 use Rattle.stl_decl.specs.Steps.{spelling, end_fault, fault_at}

@@ -2,11 +2,36 @@ use super::*;
 use s7_base::CodeKind;
 use std::alloc::Global;
 use std::test::Fail;
-use stl_decl::Layout;
+use stl_decl::{Layout, declarations};
 use stl_lex::tokens;
 
 /// Each statement as operation, area, bit, number of the data block and value; or a fault as 1000, its kind and its
 /// line.
+fn shown(alloc: Global, read: Result<(Body, u32), ReadError>) -> Result<Vec<u32>, Fail> {
+    let mut all = Vec::new(alloc);
+    match read {
+        Ok((read, _)) => {
+            for line in read.statements() {
+                let s = line.statement;
+                let fields = [
+                    s.op as u32,
+                    s.area as u32,
+                    s.bit as u32,
+                    s.db as u32,
+                    s.value,
+                ];
+                all.extend_from_slice(fields.as_slice())?;
+            }
+        }
+        Err(ReadError::Fault(fault)) => {
+            all.extend_from_slice([1000, fault.kind as u32, fault.line].as_slice())?;
+        }
+        Err(ReadError::NoMemory) => return Err(Fail::from("no memory")),
+    }
+    Ok(all)
+}
+
+/// A body without names.
 fn fields(alloc: Global, kind: CodeKind, text: &[u8]) -> Result<Vec<u32>, Fail> {
     if text.len() > 1_048_576 {
         return Err(Fail::from("too long"));
@@ -15,26 +40,25 @@ fn fields(alloc: Global, kind: CodeKind, text: &[u8]) -> Result<Vec<u32>, Fail> 
         return Err(Fail::from("no tokens"));
     };
     let temps = Layout::new(alloc);
-    let mut all = Vec::new(alloc);
-    match body(alloc, text, &found, 0, kind, &temps) {
-        Ok((read, _)) => {
-            for line in read.statements() {
-                let s = line.statement;
-                all.push(s.op as u32)?;
-                all.push(s.area as u32)?;
-                all.push(s.bit as u32)?;
-                all.push(s.db as u32)?;
-                all.push(s.value)?;
-            }
-        }
-        Err(ReadError::Fault(fault)) => {
-            all.push(1000)?;
-            all.push(fault.kind as u32)?;
-            all.push(fault.line)?;
-        }
-        Err(ReadError::NoMemory) => return Err(Fail::from("no memory")),
+    shown(alloc, body(alloc, text, &found, 0, kind, &temps))
+}
+
+/// A body behind its declarations and BEGIN.
+fn with_names(alloc: Global, text: &[u8]) -> Result<Vec<u32>, Fail> {
+    if text.len() > 1_048_576 {
+        return Err(Fail::from("too long"));
     }
-    Ok(all)
+    let Ok(found) = tokens(alloc, text) else {
+        return Err(Fail::from("no tokens"));
+    };
+    let Ok((temps, begin)) = declarations(alloc, text, &found, 0) else {
+        return Err(Fail::from("no declarations"));
+    };
+    let from = begin.saturating_add(1);
+    if from as usize > found.as_slice().len() {
+        return Err(Fail::from("no BEGIN"));
+    }
+    shown(alloc, body(alloc, text, &found, from, CodeKind::Fc, &temps))
 }
 
 fn in_function(alloc: Global, statement: &[u8]) -> Result<Vec<u8>, Fail> {
@@ -318,200 +342,244 @@ fn jumps_timers_and_blocks(rt: HostRuntime) -> Result<(), Fail> {
     Ok(())
 }
 
-/// The kind and the line of each fault.
+/// The kind and the line of a fault.
+fn fault_of(alloc: Global, text: &[u8]) -> Result<(u32, u32), Fail> {
+    let shown = fields(alloc, CodeKind::Fc, text)?;
+    match shown.as_slice() {
+        [1000, kind, line] => Ok((*kind, *line)),
+        _ => Err(Fail::from("no fault")),
+    }
+}
+
 #[test]
-fn faults(rt: HostRuntime) -> Result<(), Fail> {
-    let rows: [(&[u8], [u32; 2]); 183] = [
-        (b"A IB 0; END_FUNCTION", [11, 1]),
-        (b"A I\n64.0; END_FUNCTION", [11, 1]),
-        (b"A I 0.8; END_FUNCTION", [11, 1]),
-        (b"A\nIB\n0; END_FUNCTION", [11, 2]),
-        (b"A;", [11, 1]),
-        (b"A\n;", [11, 2]),
-        (b"A\nO I 0.0;", [11, 2]),
-        (b"A", [13, 1]),
-        (b"A\n\n", [13, 2]),
-        (b"A I 0.0\nA I 0.1;", [13, 1]),
-        (b"A I\n0.0", [13, 2]),
-        (b"A I 0\n.\n", [13, 2]),
-        (b"A I 0", [13, 1]),
-        (b"= T 1; END_FUNCTION", [11, 1]),
-        (b"= BR; END_FUNCTION", [11, 1]),
-        (b"S T 1; END_FUNCTION", [11, 1]),
-        (b"R OV; END_FUNCTION", [11, 1]),
-        (b"FP T 1; END_FUNCTION", [11, 1]),
-        (b"A STW; END_FUNCTION", [11, 1]),
-        (b"A TRUE; END_FUNCTION", [11, 1]),
-        (b"A 5; END_FUNCTION", [11, 1]),
-        (b"A DIX 65536.0; END_FUNCTION", [11, 1]),
-        (b"A DB0.DBX 0.0; END_FUNCTION", [11, 1]),
-        (b"A\nDB256\n.DBX 0.0; END_FUNCTION", [11, 2]),
-        (b"A DB1.\nDBW 0; END_FUNCTION", [11, 2]),
-        (b"A DB1\nDBX 0.0; END_FUNCTION", [11, 2]),
-        (b"A DB1_0.DBX 0.0; END_FUNCTION", [11, 1]),
-        (b"A DB1.\nDB 0; END_FUNCTION", [11, 2]),
-        (b"A DB1.\n5 0; END_FUNCTION", [11, 2]),
-        (b"A T 256; END_FUNCTION", [11, 1]),
-        (b"A C 256; END_FUNCTION", [11, 1]),
-        (b"A ==\n1; END_FUNCTION", [11, 2]),
-        (b"L ==0; END_FUNCTION", [11, 1]),
-        (b"A \"x\"; END_FUNCTION", [21, 1]),
-        (b"A P#M0.0; END_FUNCTION", [21, 1]),
-        (b"A I\n\"x\"; END_FUNCTION", [21, 2]),
-        (b"L IB 64; END_FUNCTION", [11, 1]),
-        (b"L IW 63; END_FUNCTION", [11, 1]),
-        (b"L QD 61; END_FUNCTION", [11, 1]),
-        (b"L MB 1024; END_FUNCTION", [11, 1]),
-        (b"L MW 1023; END_FUNCTION", [11, 1]),
-        (b"L MD 1021; END_FUNCTION", [11, 1]),
-        (b"L DBB 65536; END_FUNCTION", [11, 1]),
-        (b"L DBW 65535; END_FUNCTION", [11, 1]),
-        (b"L DBD 65533; END_FUNCTION", [11, 1]),
-        (b"L DIW 65535; END_FUNCTION", [11, 1]),
-        (b"L DB1.DBB 65536; END_FUNCTION", [11, 1]),
-        (b"L PIB 1024; END_FUNCTION", [11, 1]),
-        (b"L PIW 1023; END_FUNCTION", [11, 1]),
-        (b"L PQB 0; END_FUNCTION", [11, 1]),
-        (b"T PIB 0; END_FUNCTION", [11, 1]),
-        (b"T PQD 1021; END_FUNCTION", [11, 1]),
-        (b"T 5; END_FUNCTION", [11, 1]),
-        (b"T T 5; END_FUNCTION", [11, 1]),
-        (b"T DBLG; END_FUNCTION", [11, 1]),
-        (b"L LB 0; END_FUNCTION", [11, 1]),
-        (b"A L 0.0; END_FUNCTION", [11, 1]),
-        (b"L I 0.0; END_FUNCTION", [11, 1]),
-        (b"L 32768; END_FUNCTION", [11, 1]),
-        (b"L -\n32769; END_FUNCTION", [11, 1]),
-        (b"L 4_294_967_295; END_FUNCTION", [11, 1]),
-        (b"L TRUE; END_FUNCTION", [11, 1]),
-        (b"L +\n; END_FUNCTION", [11, 2]),
-        (b"A +\n; END_FUNCTION", [11, 1]),
-        (b"L P#1; END_FUNCTION", [21, 1]),
-        (b"LC 5; END_FUNCTION", [11, 1]),
-        (b"LC MW 0; END_FUNCTION", [11, 1]),
-        (b"INC 256; END_FUNCTION", [11, 1]),
-        (b"INC +1; END_FUNCTION", [11, 1]),
-        (b"INC B#16#1; END_FUNCTION", [11, 1]),
-        (b"DEC; END_FUNCTION", [11, 1]),
-        (b"+ W#16#1; END_FUNCTION", [11, 1]),
-        (b"+ 32768; END_FUNCTION", [11, 1]),
-        (b"AW 5; END_FUNCTION", [11, 1]),
-        (b"AW B#16#1; END_FUNCTION", [11, 1]),
-        (b"AW DW#16#1; END_FUNCTION", [11, 1]),
-        (b"AD W#16#1; END_FUNCTION", [11, 1]),
-        (b"SSI 16; END_FUNCTION", [11, 1]),
-        (b"SLD 33; END_FUNCTION", [11, 1]),
-        (b"RLD W#16#1; END_FUNCTION", [11, 1]),
-        (b"JU; END_FUNCTION", [11, 1]),
-        (b"JU LABEL1; END_FUNCTION", [11, 1]),
-        (b"JU 5; END_FUNCTION", [11, 1]),
-        (b"JU #x; END_FUNCTION", [11, 1]),
-        (b"SP T 256; END_FUNCTION", [11, 1]),
-        (b"SP C 1; END_FUNCTION", [11, 1]),
-        (b"CU T 1; END_FUNCTION", [11, 1]),
-        (b"CD C 256; END_FUNCTION", [11, 1]),
-        (b"FR M 0.0; END_FUNCTION", [11, 1]),
-        (b"OPN DB 0; END_FUNCTION", [11, 1]),
-        (b"OPN DB 256; END_FUNCTION", [11, 1]),
-        (b"OPN DI 256; END_FUNCTION", [11, 1]),
-        (b"OPN DB1; END_FUNCTION", [11, 1]),
-        (b"CALL FC 256; END_FUNCTION", [11, 1]),
-        (b"CALL FB 1\n; END_FUNCTION", [11, 2]),
-        (b"CALL FB 1, DB 0; END_FUNCTION", [11, 1]),
-        (b"CALL\nFB 1, DB\n256; END_FUNCTION", [11, 2]),
-        (b"CALL FB 256, DB 1; END_FUNCTION", [11, 1]),
-        (b"CALL FB 1, DI 1; END_FUNCTION", [11, 1]),
-        (b"CALL SFC 44; END_FUNCTION", [21, 1]),
-        (b"CALL\nSFB\n1; END_FUNCTION", [21, 2]),
-        (b"CALL\nSFC\n;", [11, 3]),
-        (b"CALL DB 1; END_FUNCTION", [11, 1]),
-        (b"UC SFC 43; END_FUNCTION", [11, 1]),
-        (b"UC SFC 1; END_FUNCTION", [21, 1]),
-        (b"CC SFB 1; END_FUNCTION", [21, 1]),
-        (b"A SFB 1; END_FUNCTION", [11, 1]),
-        (b"A SFC 43; END_FUNCTION", [11, 1]),
-        (b"UC FB 1, DB 1; END_FUNCTION", [13, 1]),
-        (b"UC FB 256; END_FUNCTION", [11, 1]),
-        (b"CC DB 1; END_FUNCTION", [11, 1]),
-        (b"NOP 2; END_FUNCTION", [11, 1]),
-        (b"NOP; END_FUNCTION", [11, 1]),
-        (b"BLD 256; END_FUNCTION", [11, 1]),
-        (b"M001: END_FUNCTION_BLOCK", [9, 1]),
-        (b"END_ORGANIZATION_BLOCK", [9, 1]),
-        (b"CALL FC 1\n();", [21, 2]),
-        (b"CALL\n(", [21, 2]),
-        (b"CALL FC\n(", [21, 2]),
-        (b"CALL FB 1, DB 1\n(", [21, 2]),
-        (b"CALL SFC 43 (", [21, 1]),
-        (b"UC FC 1\n(", [13, 1]),
-        (b"UC FC\n(", [11, 2]),
-        (b"\"x\" := 5;", [9, 1]),
-        (b"P#M0.0;", [9, 1]),
-        (b"O 5; END_FUNCTION", [11, 1]),
-        (b"O\nL 5; END_FUNCTION", [13, 1]),
-        (b"O\nL 0.0; END_FUNCTION", [11, 2]),
-        (b"O\nT QB 0;", [13, 1]),
-        (b"O\nC;", [13, 1]),
-        (b"O\nDB 5; END_FUNCTION", [11, 2]),
-        (b"O\n\"x\";", [21, 2]),
-        (b"O\n#x;", [12, 2]),
-        (b"O\n>5;", [13, 1]),
-        (b"AW\n+I;", [13, 1]),
-        (b"AW\n+5;", [11, 2]),
-        (b"SLW\nNOP 0;", [13, 1]),
-        (b"SLW\nSTW;", [11, 2]),
-        (b"NOT\n5;", [13, 1]),
-        (b"JU\n#x;", [11, 2]),
-        (b"AW\n#x;", [11, 2]),
-        (b"A\n#x;", [12, 2]),
-        (b"L 1.5; END_FUNCTION", [10, 1]),
-        (b"L\n-1.5; END_FUNCTION", [10, 2]),
-        (b"L 1E5; END_FUNCTION", [10, 1]),
-        (b"L\n+\n1.5E3;", [10, 2]),
-        (b"A 1.5; END_FUNCTION", [10, 1]),
-        (b"AW -1E5; END_FUNCTION", [10, 1]),
-        (b"JU 1.5;", [10, 1]),
-        (b"NOT\n1.5;", [13, 1]),
-        (b"L 1.;", [13, 1]),
-        (b"A 1.;", [11, 1]),
-        (b"A I\n[MD 0];", [21, 2]),
-        (b"L T\n[MW 0];", [21, 2]),
-        (b"OPN DB\n[MW 0];", [21, 2]),
-        (b"CALL FB 1, DB\n[MW 0];", [21, 2]),
-        (b"A DB1.DBX\n[MD 0];", [21, 2]),
-        (b"A I 0.0\n[MD 0];", [13, 1]),
-        (b"A IB\n[", [11, 1]),
-        (b"LAR1;", [21, 1]),
-        (b"+AR1;", [21, 1]),
-        (b"TAR2 MD 0;", [21, 1]),
-        (b"L LAR1;", [11, 1]),
-        (b"VAR\nEND_VAR", [9, 1]),
-        (b"A I 0.0;\n", [13, 1]),
-        (b"\n\nM001:", [13, 3]),
-        (b"", [13, 1]),
-        (b"L 5 // a comment\n\n", [13, 1]),
-        (b"LABEL: NOP 0;", [9, 1]),
-        (b"LEAVE\n: NOP 0;", [13, 1]),
-        (b"M001:\nM002: NOP 0;", [9, 2]),
-        (b"A\n(;", [11, 2]),
-        (b"+\nI;", [11, 2]),
-        (b"FOO;", [9, 1]),
-        (b";;FOO", [9, 1]),
-        (b"{x}", [9, 1]),
-        (b"5;", [9, 1]),
-        (b"+R;", [10, 1]),
-        (b"==R;", [10, 1]),
-        (b"RND+;", [10, 1]),
-        (b"RND\n+;", [10, 1]),
-        (b"TRUNC;", [10, 1]),
-        (b"sqrt;", [10, 1]),
+fn bits_at_fault(rt: HostRuntime) -> Result<(), Fail> {
+    let rows: [(&[u8], (u32, u32)); 36] = [
+        (b"A IB 0; END_FUNCTION", (11, 1)),
+        (b"A I\n64.0; END_FUNCTION", (11, 1)),
+        (b"A I 0.8; END_FUNCTION", (11, 1)),
+        (b"A\nIB\n0; END_FUNCTION", (11, 2)),
+        (b"A;", (11, 1)),
+        (b"A\n;", (11, 2)),
+        (b"A\nO I 0.0;", (11, 2)),
+        (b"A", (13, 1)),
+        (b"A\n\n", (13, 2)),
+        (b"A I 0.0\nA I 0.1;", (13, 1)),
+        (b"A I\n0.0", (13, 2)),
+        (b"A I 0\n.\n", (13, 2)),
+        (b"A I 0", (13, 1)),
+        (b"= T 1; END_FUNCTION", (11, 1)),
+        (b"= BR; END_FUNCTION", (11, 1)),
+        (b"S T 1; END_FUNCTION", (11, 1)),
+        (b"R OV; END_FUNCTION", (11, 1)),
+        (b"FP T 1; END_FUNCTION", (11, 1)),
+        (b"A STW; END_FUNCTION", (11, 1)),
+        (b"A TRUE; END_FUNCTION", (11, 1)),
+        (b"A 5; END_FUNCTION", (11, 1)),
+        (b"A DIX 65536.0; END_FUNCTION", (11, 1)),
+        (b"A DB0.DBX 0.0; END_FUNCTION", (11, 1)),
+        (b"A\nDB256\n.DBX 0.0; END_FUNCTION", (11, 2)),
+        (b"A DB1.\nDBW 0; END_FUNCTION", (11, 2)),
+        (b"A DB1\nDBX 0.0; END_FUNCTION", (11, 2)),
+        (b"A DB1_0.DBX 0.0; END_FUNCTION", (11, 1)),
+        (b"A DB1.\nDB 0; END_FUNCTION", (11, 2)),
+        (b"A DB1.\n5 0; END_FUNCTION", (11, 2)),
+        (b"A T 256; END_FUNCTION", (11, 1)),
+        (b"A C 256; END_FUNCTION", (11, 1)),
+        (b"A ==\n1; END_FUNCTION", (11, 2)),
+        (b"L ==0; END_FUNCTION", (11, 1)),
+        (b"A \"x\"; END_FUNCTION", (21, 1)),
+        (b"A P#M0.0; END_FUNCTION", (21, 1)),
+        (b"A I\n\"x\"; END_FUNCTION", (21, 2)),
     ];
-    for (text, [kind, line]) in rows {
-        let want = [1000, kind, line];
-        assert_eq!(rt;
-            fields(rt.alloc(), CodeKind::Fc, text)?.as_slice(),
-            want.as_slice()
-        );
+    for (text, want) in rows {
+        assert_eq!(rt; fault_of(rt.alloc(), text)?, want);
+    }
+    Ok(())
+}
+
+#[test]
+fn values_at_fault(rt: HostRuntime) -> Result<(), Fail> {
+    let rows: [(&[u8], (u32, u32)); 44] = [
+        (b"L IB 64; END_FUNCTION", (11, 1)),
+        (b"L IW 63; END_FUNCTION", (11, 1)),
+        (b"L QD 61; END_FUNCTION", (11, 1)),
+        (b"L MB 1024; END_FUNCTION", (11, 1)),
+        (b"L MW 1023; END_FUNCTION", (11, 1)),
+        (b"L MD 1021; END_FUNCTION", (11, 1)),
+        (b"L DBB 65536; END_FUNCTION", (11, 1)),
+        (b"L DBW 65535; END_FUNCTION", (11, 1)),
+        (b"L DBD 65533; END_FUNCTION", (11, 1)),
+        (b"L DIW 65535; END_FUNCTION", (11, 1)),
+        (b"L DB1.DBB 65536; END_FUNCTION", (11, 1)),
+        (b"L PIB 1024; END_FUNCTION", (11, 1)),
+        (b"L PIW 1023; END_FUNCTION", (11, 1)),
+        (b"L PQB 0; END_FUNCTION", (11, 1)),
+        (b"T PIB 0; END_FUNCTION", (11, 1)),
+        (b"T PQD 1021; END_FUNCTION", (11, 1)),
+        (b"T 5; END_FUNCTION", (11, 1)),
+        (b"T T 5; END_FUNCTION", (11, 1)),
+        (b"T DBLG; END_FUNCTION", (11, 1)),
+        (b"L LB 0; END_FUNCTION", (11, 1)),
+        (b"A L 0.0; END_FUNCTION", (11, 1)),
+        (b"L I 0.0; END_FUNCTION", (11, 1)),
+        (b"L 32768; END_FUNCTION", (11, 1)),
+        (b"L -\n32769; END_FUNCTION", (11, 1)),
+        (b"L 4_294_967_295; END_FUNCTION", (11, 1)),
+        (b"L TRUE; END_FUNCTION", (11, 1)),
+        (b"L +\n; END_FUNCTION", (11, 2)),
+        (b"A +\n; END_FUNCTION", (11, 1)),
+        (b"L P#1; END_FUNCTION", (21, 1)),
+        (b"LC 5; END_FUNCTION", (11, 1)),
+        (b"LC MW 0; END_FUNCTION", (11, 1)),
+        (b"INC 256; END_FUNCTION", (11, 1)),
+        (b"INC +1; END_FUNCTION", (11, 1)),
+        (b"INC B#16#1; END_FUNCTION", (11, 1)),
+        (b"DEC; END_FUNCTION", (11, 1)),
+        (b"+ W#16#1; END_FUNCTION", (11, 1)),
+        (b"+ 32768; END_FUNCTION", (11, 1)),
+        (b"AW 5; END_FUNCTION", (11, 1)),
+        (b"AW B#16#1; END_FUNCTION", (11, 1)),
+        (b"AW DW#16#1; END_FUNCTION", (11, 1)),
+        (b"AD W#16#1; END_FUNCTION", (11, 1)),
+        (b"SSI 16; END_FUNCTION", (11, 1)),
+        (b"SLD 33; END_FUNCTION", (11, 1)),
+        (b"RLD W#16#1; END_FUNCTION", (11, 1)),
+    ];
+    for (text, want) in rows {
+        assert_eq!(rt; fault_of(rt.alloc(), text)?, want);
+    }
+    Ok(())
+}
+
+#[test]
+fn blocks_at_fault(rt: HostRuntime) -> Result<(), Fail> {
+    let rows: [(&[u8], (u32, u32)); 34] = [
+        (b"JU; END_FUNCTION", (11, 1)),
+        (b"JU LABEL1; END_FUNCTION", (11, 1)),
+        (b"JU 5; END_FUNCTION", (11, 1)),
+        (b"JU #x; END_FUNCTION", (11, 1)),
+        (b"SP T 256; END_FUNCTION", (11, 1)),
+        (b"SP C 1; END_FUNCTION", (11, 1)),
+        (b"CU T 1; END_FUNCTION", (11, 1)),
+        (b"CD C 256; END_FUNCTION", (11, 1)),
+        (b"FR M 0.0; END_FUNCTION", (11, 1)),
+        (b"OPN DB 0; END_FUNCTION", (11, 1)),
+        (b"OPN DB 256; END_FUNCTION", (11, 1)),
+        (b"OPN DI 256; END_FUNCTION", (11, 1)),
+        (b"OPN DB1; END_FUNCTION", (11, 1)),
+        (b"CALL FC 256; END_FUNCTION", (11, 1)),
+        (b"CALL FB 1\n; END_FUNCTION", (11, 2)),
+        (b"CALL FB 1, DB 0; END_FUNCTION", (11, 1)),
+        (b"CALL\nFB 1, DB\n256; END_FUNCTION", (11, 2)),
+        (b"CALL FB 256, DB 1; END_FUNCTION", (11, 1)),
+        (b"CALL FB 1, DI 1; END_FUNCTION", (11, 1)),
+        (b"CALL SFC 44; END_FUNCTION", (21, 1)),
+        (b"CALL\nSFB\n1; END_FUNCTION", (21, 2)),
+        (b"CALL\nSFC\n;", (11, 3)),
+        (b"CALL DB 1; END_FUNCTION", (11, 1)),
+        (b"UC SFC 43; END_FUNCTION", (11, 1)),
+        (b"UC SFC 1; END_FUNCTION", (21, 1)),
+        (b"CC SFB 1; END_FUNCTION", (21, 1)),
+        (b"A SFB 1; END_FUNCTION", (11, 1)),
+        (b"A SFC 43; END_FUNCTION", (11, 1)),
+        (b"UC FB 1, DB 1; END_FUNCTION", (13, 1)),
+        (b"UC FB 256; END_FUNCTION", (11, 1)),
+        (b"CC DB 1; END_FUNCTION", (11, 1)),
+        (b"NOP 2; END_FUNCTION", (11, 1)),
+        (b"NOP; END_FUNCTION", (11, 1)),
+        (b"BLD 256; END_FUNCTION", (11, 1)),
+    ];
+    for (text, want) in rows {
+        assert_eq!(rt; fault_of(rt.alloc(), text)?, want);
+    }
+    Ok(())
+}
+
+#[test]
+fn operands_left_out(rt: HostRuntime) -> Result<(), Fail> {
+    let rows: [(&[u8], (u32, u32)); 28] = [
+        (b"M001: END_FUNCTION_BLOCK", (9, 1)),
+        (b"END_ORGANIZATION_BLOCK", (9, 1)),
+        (b"CALL FC 1\n();", (21, 2)),
+        (b"CALL\n(", (21, 2)),
+        (b"CALL FC\n(", (21, 2)),
+        (b"CALL FB 1, DB 1\n(", (21, 2)),
+        (b"CALL SFC 43 (", (21, 1)),
+        (b"UC FC 1\n(", (13, 1)),
+        (b"UC FC\n(", (11, 2)),
+        (b"\"x\" := 5;", (9, 1)),
+        (b"P#M0.0;", (9, 1)),
+        (b"O 5; END_FUNCTION", (11, 1)),
+        (b"O\nL 5; END_FUNCTION", (13, 1)),
+        (b"O\nL 0.0; END_FUNCTION", (11, 2)),
+        (b"O\nT QB 0;", (13, 1)),
+        (b"O\nC;", (13, 1)),
+        (b"O\nDB 5; END_FUNCTION", (11, 2)),
+        (b"O\n\"x\";", (21, 2)),
+        (b"O\n#x;", (12, 2)),
+        (b"O\n>5;", (13, 1)),
+        (b"AW\n+I;", (13, 1)),
+        (b"AW\n+5;", (11, 2)),
+        (b"SLW\nNOP 0;", (13, 1)),
+        (b"SLW\nSTW;", (11, 2)),
+        (b"NOT\n5;", (13, 1)),
+        (b"JU\n#x;", (11, 2)),
+        (b"AW\n#x;", (11, 2)),
+        (b"A\n#x;", (12, 2)),
+    ];
+    for (text, want) in rows {
+        assert_eq!(rt; fault_of(rt.alloc(), text)?, want);
+    }
+    Ok(())
+}
+
+#[test]
+fn statements_at_fault(rt: HostRuntime) -> Result<(), Fail> {
+    let rows: [(&[u8], (u32, u32)); 41] = [
+        (b"L 1.5; END_FUNCTION", (10, 1)),
+        (b"L\n-1.5; END_FUNCTION", (10, 2)),
+        (b"L 1E5; END_FUNCTION", (10, 1)),
+        (b"L\n+\n1.5E3;", (10, 2)),
+        (b"A 1.5; END_FUNCTION", (10, 1)),
+        (b"AW -1E5; END_FUNCTION", (10, 1)),
+        (b"JU 1.5;", (10, 1)),
+        (b"NOT\n1.5;", (13, 1)),
+        (b"L 1.;", (13, 1)),
+        (b"A 1.;", (11, 1)),
+        (b"A I\n[MD 0];", (21, 2)),
+        (b"L T\n[MW 0];", (21, 2)),
+        (b"OPN DB\n[MW 0];", (21, 2)),
+        (b"CALL FB 1, DB\n[MW 0];", (21, 2)),
+        (b"A DB1.DBX\n[MD 0];", (21, 2)),
+        (b"A I 0.0\n[MD 0];", (13, 1)),
+        (b"A IB\n[", (11, 1)),
+        (b"LAR1;", (21, 1)),
+        (b"+AR1;", (21, 1)),
+        (b"TAR2 MD 0;", (21, 1)),
+        (b"L LAR1;", (11, 1)),
+        (b"VAR\nEND_VAR", (9, 1)),
+        (b"A I 0.0;\n", (13, 1)),
+        (b"\n\nM001:", (13, 3)),
+        (b"", (13, 1)),
+        (b"L 5 // a comment\n\n", (13, 1)),
+        (b"LABEL: NOP 0;", (9, 1)),
+        (b"LEAVE\n: NOP 0;", (13, 1)),
+        (b"M001:\nM002: NOP 0;", (9, 2)),
+        (b"A\n(;", (11, 2)),
+        (b"+\nI;", (11, 2)),
+        (b"FOO;", (9, 1)),
+        (b";;FOO", (9, 1)),
+        (b"{x}", (9, 1)),
+        (b"5;", (9, 1)),
+        (b"+R;", (10, 1)),
+        (b"==R;", (10, 1)),
+        (b"RND+;", (10, 1)),
+        (b"RND\n+;", (10, 1)),
+        (b"TRUNC;", (10, 1)),
+        (b"sqrt;", (10, 1)),
+    ];
+    for (text, want) in rows {
+        assert_eq!(rt; fault_of(rt.alloc(), text)?, want);
     }
     Ok(())
 }
@@ -593,5 +661,55 @@ fn lists(rt: HostRuntime) -> Result<(), Fail> {
         },
     ];
     assert_eq!(rt; read.jumps(), jumps.as_slice());
+    Ok(())
+}
+
+/// BOOLs at 0.0 and 0.1, a BYTE at 1, an INT at 2, arrays at 4 and 12, a DINT at 14, 8 bytes at 18, a CHAR at 26:
+/// 28 bytes.
+#[test]
+fn named_locals(rt: HostRuntime) -> Result<(), Fail> {
+    let names =
+        b"VAR_TEMP a: BOOL; b: BOOL; c: BYTE; d: INT; e: ARRAY[-1..2] OF INT; f: ARRAY[0..9] OF BOOL; \
+        g: DINT; h: DATE_AND_TIME; i: CHAR; END_VAR BEGIN ";
+    let rows: [(&[u8], &[u32]); 33] = [
+        (b"A #a; END_FUNCTION", &[0, 4, 0, 0, 0]),
+        (b"= #B; END_FUNCTION", &[14, 4, 1, 0, 0]),
+        (b"L #c; END_FUNCTION", &[27, 4, 8, 0, 1]),
+        (b"T #d; END_FUNCTION", &[28, 4, 9, 0, 2]),
+        (b"L #e[-1]; END_FUNCTION", &[27, 4, 9, 0, 4]),
+        (b"L #e [ 0 ]; END_FUNCTION", &[27, 4, 9, 0, 6]),
+        (b"T #e[+2]; END_FUNCTION", &[28, 4, 9, 0, 10]),
+        (b"A #f[3]; END_FUNCTION", &[0, 4, 3, 0, 12]),
+        (b"FP #f[9]; END_FUNCTION", &[21, 4, 1, 0, 13]),
+        (b"L #g; END_FUNCTION", &[27, 4, 10, 0, 14]),
+        (b"L #I; END_FUNCTION", &[27, 4, 8, 0, 26]),
+        (b"L LB 27; END_FUNCTION", &[27, 4, 8, 0, 27]),
+        (b"A L 27.7; END_FUNCTION", &[0, 4, 7, 0, 27]),
+        (b"L\n#e; END_FUNCTION", &[1000, 11, 2]),
+        (b"L\n#e[\n3]; END_FUNCTION", &[1000, 11, 3]),
+        (b"L #e[\n-\n2]; END_FUNCTION", &[1000, 11, 2]),
+        (b"L #e[32768]; END_FUNCTION", &[1000, 11, 1]),
+        (b"L\n#d[\n0]; END_FUNCTION", &[1000, 11, 3]),
+        (b"A\n#c; END_FUNCTION", &[1000, 11, 2]),
+        (b"A\n#e[\n9]; END_FUNCTION", &[1000, 11, 2]),
+        (b"L #a; END_FUNCTION", &[1000, 11, 1]),
+        (b"L #h; END_FUNCTION", &[1000, 11, 1]),
+        (b"L\n#k[; END_FUNCTION", &[1000, 12, 2]),
+        (b"A\n#k; END_FUNCTION", &[1000, 12, 2]),
+        (b"JU #a; END_FUNCTION", &[1000, 11, 1]),
+        (b"AW\n#k; END_FUNCTION", &[1000, 11, 2]),
+        (b"L LB 28; END_FUNCTION", &[1000, 11, 1]),
+        (b"L LW 27; END_FUNCTION", &[1000, 11, 1]),
+        (b"L #e[1\n,2]; END_FUNCTION", &[1000, 11, 2]),
+        (b"L #e[1\n.5]; END_FUNCTION", &[1000, 11, 2]),
+        (b"L #e[\n; END_FUNCTION", &[1000, 11, 2]),
+        (b"L #e[1\n", &[1000, 13, 1]),
+        (b"L #e[1]\nNOP 0; END_FUNCTION", &[1000, 13, 1]),
+    ];
+    for (text, want) in rows {
+        let mut whole = names.to_vec(rt.alloc())?;
+        whole.extend_from_slice(text)?;
+        assert_eq!(rt; with_names(rt.alloc(), whole.as_slice())?.as_slice(), want);
+    }
     Ok(())
 }

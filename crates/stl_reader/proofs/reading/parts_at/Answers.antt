@@ -1,4 +1,4 @@
-use Rattle.std.proofs.Common.{◌≡◌, arith, length, List, ◌-◌, ◌+◌}
+use Rattle.std.proofs.Common.{arith, length, List}
 use Rattle.std.proofs.lemmas.Result.{err_from_is_err_and}
 use Rattle.stl_decl.specs.Steps.{end_fault}
 use Rattle.stl_decl.proofs.Repeat.{ends, goes_on, fails, runs_out, fails_with}
