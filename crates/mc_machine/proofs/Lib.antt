@@ -1,5 +1,6 @@
 pub mod Asked
 pub mod Enough
 pub mod Keeps
+pub mod PlayedMeans
 pub mod Row
 pub mod Sound

@@ -7,6 +7,7 @@ pub mod JumpEffect
 pub mod Meaning
 pub mod MoveEffect
 pub mod NumberEffect
+pub mod Played
 pub mod Reading
 pub mod Rung
 pub mod Stands

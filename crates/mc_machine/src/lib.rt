@@ -10,6 +10,7 @@ mod engine;
 mod execute;
 mod instruction;
 mod jumps;
+mod laws;
 mod moves;
 mod numbers;
 mod places;
@@ -22,6 +23,7 @@ pub use instruction::{
     Instruction, JumpInstruction, MoveInstruction, NumberInstruction, StatusInstruction,
     TimedOperation, TimerOperation, ValuePlace, Width, WordInstruction,
 };
+pub use laws::played_statements_mean_instructions;
 pub use places::{Frame, Level, Mode, Note, Place};
 
 #[cfg(test)]
