@@ -24,11 +24,12 @@ struct Cpu {
 }
 
 impl Cpu {
-    ghost use Rattle.std.specs.Prelude.{◌≡◌, slice_get};
+    ghost use Rattle.std.specs.Prelude.{◌≡◌, ◌≤◌, length, slice_get};
     ghost use Rattle.pair_core.specs.Tail.{block_by};
 
     fn block(&self, number: u8) -> Option<[u8; 4]>
-        ensures { result ≡ block_by (slice_get self.now.blocks number) }
+        ensures block { result ≡ block_by (slice_get self.now.blocks number) }
+        ensures count { length self.now.blocks ≤ 256 }
     {
         match self.blocks.get(usize::from(number)) {
             Some(block) => *block,
