@@ -1,0 +1,4 @@
+pub mod Heads
+pub mod Told
+pub mod Fronts
+pub mod Blocks

@@ -1,0 +1,8 @@
+//! Loads a source: its blocks, or its first fault.
+#![tactic(auto)]
+
+mod blocks;
+mod error;
+mod heads;
+
+pub use error::LoadError;
