@@ -1,3 +1,5 @@
 pub mod Turns
 pub mod Repeat
 pub mod Reading
+pub mod Names
+pub mod Least

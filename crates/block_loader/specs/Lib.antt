@@ -2,3 +2,5 @@ pub mod Heads
 pub mod Told
 pub mod Fronts
 pub mod Blocks
+pub mod Faults
+pub mod Least

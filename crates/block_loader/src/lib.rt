@@ -3,6 +3,7 @@
 
 mod blocks;
 mod error;
+mod faults;
 mod heads;
 
 pub use error::LoadError;
