@@ -3,3 +3,4 @@ pub mod Repeat
 pub mod Reading
 pub mod Names
 pub mod Least
+pub mod Sources

@@ -291,3 +291,195 @@ fn take_inner(
         SourceBlock::Data(_) => Ok(found),
     }
 }
+
+impl SourceBlock {
+    /// Kind and number.
+    fn name(&self) -> [u8; 2]
+        ensures { result ≡ name_of self.now }
+    {
+        match self {
+            SourceBlock::Code(code) => [kind_byte(code.kind), code.number],
+            SourceBlock::Data(data) => [3, data.number],
+        }
+    }
+
+    /// The line of its head.
+    fn line(&self) -> u32
+        ensures { result ≡ line_of self.now }
+    {
+        match self {
+            SourceBlock::Code(code) => code.line,
+            SourceBlock::Data(data) => data.line,
+        }
+    }
+}
+
+fn kind_byte(kind: CodeKind) -> u8
+    ensures { result ≡ kind_byte kind }
+{
+    match kind {
+        CodeKind::Ob => 0,
+        CodeKind::Fb => 1,
+        CodeKind::Fc => 2,
+    }
+}
+
+/// A total with so many more, up to a million.
+fn total(so_far: u64, more: u64) -> u64
+    requires so_far { so_far ≤ 1000000 }
+    requires more { more < 2 ^ 63 }
+    ensures exact { result ≡ total so_far more }
+    ensures within { result ≤ 1000000 }
+{
+    (so_far + more).min(1_000_000)
+}
+
+/// The totals with one block more.
+fn counted(totals: Totals, block: &SourceBlock) -> Totals
+    requires statements { totals.statements ≤ 1000000 }
+    requires bytes { totals.bytes ≤ 1000000 }
+    requires pages { totals.pages ≤ 1000000 }
+    ensures exact { result ≡ counted totals block.now }
+    ensures statements { result.statements ≤ 1000000 }
+    ensures bytes { result.bytes ≤ 1000000 }
+    ensures pages { result.pages ≤ 1000000 }
+{
+    match block {
+        SourceBlock::Code(code) => Totals {
+            statements: total(totals.statements, code.body.statements().len() as u64),
+            bytes: totals.bytes,
+            pages: totals.pages,
+        },
+        SourceBlock::Data(data) => {
+            let size = data.layout.size() as u64;
+            Totals {
+                statements: totals.statements,
+                bytes: total(totals.bytes, size),
+                pages: total(totals.pages, (size + 255) / 256),
+            }
+        }
+    }
+}
+
+/// Whether a limit is passed with this block: its own or that of the whole.
+fn is_too_large(totals: Totals, block: &SourceBlock) -> bool
+    ensures { result ≡ is_too_large totals block.now }
+{
+    match block {
+        SourceBlock::Code(code) => {
+            code.body.statements().len() > 4000 || totals.statements > 12_000 || code.temp > 256
+        }
+        SourceBlock::Data(data) => {
+            data.layout.size() > 8192 || totals.bytes > 32_768 || totals.pages > 256
+        }
+    }
+}
+
+/// The least fault with this one at a block's head, where it is there.
+#[tactic(auto, unfolding(crate::specs::Faults::least_of))]
+fn take_at_head(
+    there: bool,
+    number: usize,
+    kind: FaultKind,
+    block: &SourceBlock,
+    found: Option<SourceFault>,
+) -> Option<SourceFault>
+    ensures { result ≡ least_of found (at_head there number kind block.now) }
+{
+    if there {
+        lesser(
+            found,
+            SourceFault {
+                block: number,
+                statement: 0,
+                kind,
+                line: block.line(),
+            },
+        )
+    } else {
+        found
+    }
+}
+
+/// The least fault with those at a block's head.
+fn take_head(
+    taken: bool,
+    number: usize,
+    totals: Totals,
+    block: &SourceBlock,
+    found: Option<SourceFault>,
+) -> Option<SourceFault>
+    ensures { result ≡ least_of found (head_faults taken number totals block.now) }
+{
+    let double = take_at_head(taken, number, FaultKind::DoubleBlock, block, found);
+    let many = take_at_head(
+        number == 257,
+        number,
+        FaultKind::TooManyBlocks,
+        block,
+        double,
+    );
+    let too_large = is_too_large(totals, block);
+    take_at_head(too_large, number, FaultKind::TooLarge, block, many)
+}
+
+#[tactic(auto, unfolding(crate::specs::Faults::least_of))]
+fn take_missing(names: &[[u8; 2]], found: Option<SourceFault>) -> Option<SourceFault>
+    ensures { result ≡ least_of found (missing (list_any (λ n. bytes_eq n (0 ∷ 1 ∷ [])) names.now)) }
+{
+    if names.contains(&[0, 1]) {
+        found
+    } else {
+        lesser(
+            found,
+            SourceFault {
+                block: 0,
+                statement: 0,
+                kind: FaultKind::NoOb1,
+                line: 0,
+            },
+        )
+    }
+}
+
+/// The first fault of the whole source.
+pub fn first_fault(
+    alloc: Global,
+    blocks: &[SourceBlock],
+) -> Result<Option<SourceFault>, AllocError>
+    ensures { IfOk result (λ f. f ≡ first_fault blocks.now) }
+{
+    let mut names: Vec<[u8; 2]> = Vec::new(alloc);
+    let mut totals = Totals {
+        statements: 0,
+        bytes: 0,
+        pages: 0,
+    };
+    let mut least = None;
+    for block in blocks {
+        let name = block.name();
+        let taken = names.contains(&name);
+        names.push(name)?;
+        totals = counted(totals, block);
+        least = take_head(taken, names.len(), totals, block, least);
+        least = take_inner(alloc, names.len(), block, least)?;
+    }
+    Ok(take_missing(names.as_slice(), least))
+}
+
+/// What is told of a fault.
+pub fn told_of_source(fault: SourceFault) -> LoadFault
+    ensures { result ≡ told_of_source fault }
+{
+    LoadFault {
+        kind: fault.kind.number(),
+        line: fault.line,
+    }
+}
+
+/// The fault that is found is one of all faults, and none of them stands before it. None is found only where there
+/// is none.
+pub fn least_fault_law()
+    ensures some { (fs : List SourceFault) (f : SourceFault) → least_of None fs ≡ Some f → IsLeast f fs }
+    ensures none { (fs : List SourceFault) → least_of None fs ≡ None → fs ≡ [] }
+{}
