@@ -4,3 +4,4 @@ pub mod Fronts
 pub mod Blocks
 pub mod Faults
 pub mod Least
+pub mod Load

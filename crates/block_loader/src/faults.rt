@@ -89,7 +89,7 @@ fn take_label(
 }
 
 /// The statements that the names stand before, and the least fault with those of double labels.
-fn labels_of(
+pub(crate) fn labels_of(
     alloc: Global,
     block: usize,
     labels: &[Label],
@@ -314,7 +314,7 @@ impl SourceBlock {
     }
 }
 
-fn kind_byte(kind: CodeKind) -> u8
+pub(crate) fn kind_byte(kind: CodeKind) -> u8
     ensures { result ≡ kind_byte kind }
 {
     match kind {
@@ -443,10 +443,7 @@ fn take_missing(names: &[[u8; 2]], found: Option<SourceFault>) -> Option<SourceF
 }
 
 /// The first fault of the whole source.
-pub fn first_fault(
-    alloc: Global,
-    blocks: &[SourceBlock],
-) -> Result<Option<SourceFault>, AllocError>
+pub fn first_fault(alloc: Global, blocks: &[SourceBlock]) -> Result<Option<SourceFault>, AllocError>
     ensures { IfOk result (λ f. f ≡ first_fault blocks.now) }
 {
     let mut names: Vec<[u8; 2]> = Vec::new(alloc);

@@ -5,5 +5,7 @@ mod blocks;
 mod error;
 mod faults;
 mod heads;
+mod loading;
 
 pub use error::LoadError;
+pub use loading::load;
