@@ -9,3 +9,4 @@ mod loading;
 
 pub use error::LoadError;
 pub use loading::load;
+pub use stl_lex::LoadFault;
