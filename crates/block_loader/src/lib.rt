@@ -8,5 +8,9 @@ mod heads;
 mod loading;
 
 pub use error::LoadError;
+pub use faults::{SourceFault, least_fault_law};
 pub use loading::load;
 pub use stl_lex::LoadFault;
+
+#[cfg(test)]
+mod tests;
