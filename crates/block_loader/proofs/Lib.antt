@@ -4,3 +4,4 @@ pub mod Reading
 pub mod Names
 pub mod Least
 pub mod Sources
+pub mod Programs

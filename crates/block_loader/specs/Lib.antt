@@ -4,3 +4,5 @@ pub mod Fronts
 pub mod Blocks
 pub mod Faults
 pub mod Least
+pub mod Program
+pub mod Load

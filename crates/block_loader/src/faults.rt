@@ -89,7 +89,7 @@ fn take_label(
 }
 
 /// The statements that the names stand before, and the least fault with those of double labels.
-fn labels_of(
+pub fn labels_of(
     alloc: Global,
     block: usize,
     labels: &[Label],
@@ -294,7 +294,7 @@ fn take_inner(
 
 impl SourceBlock {
     /// Kind and number.
-    fn name(&self) -> [u8; 2]
+    pub fn name(&self) -> [u8; 2]
         ensures { result ≡ name_of self.now }
     {
         match self {
@@ -314,7 +314,7 @@ impl SourceBlock {
     }
 }
 
-fn kind_byte(kind: CodeKind) -> u8
+pub fn kind_byte(kind: CodeKind) -> u8
     ensures { result ≡ kind_byte kind }
 {
     match kind {

@@ -5,5 +5,9 @@ mod blocks;
 mod error;
 mod faults;
 mod heads;
+mod loader;
+mod program;
 
 pub use error::LoadError;
+pub use faults::{SourceFault, least_fault_law};
+pub use loader::load;
