@@ -33,7 +33,7 @@ module _ (blocks : List SourceBlock) (i : ℕ) (block : SourceBlock) (front : Li
       let split : drop i blocks ≡ block ∷ drop (suc i) blocks = drop-cons blocks i block h ∙ ap (λ b. b ∷ drop (suc i) blocks) (sym is) in
       let more : least_of o ((d ++ inner) ++ rest) ≡ all = subst (λ ys. least_of o (blocks_faults (i + 1) front t ys) ≡ all) split here in
       let two : least_of o'' rest ≡ least_of o ((d ++ inner) ++ rest) =
-          ap (λ (p : Option SourceFault). least_of p rest) (g ∙ ap (λ (p : Option SourceFault). least_of p inner) f ∙ sym (least_append o d inner)) ∙ sym (least_append o (d ++ inner) rest) in
+      ap (λ (p : Option SourceFault). least_of p rest) (g ∙ ap (λ (p : Option SourceFault). least_of p inner) f ∙ sym (least_append o d inner)) ∙ sym (least_append o (d ++ inner) rest) in
       subst (λ n. least_of o'' (blocks_faults (i + 1 + 1) (front ++ name_of block ∷ []) (counted t block) (drop n blocks)) ≡ all) (sym (add_one i)) (two ∙ more)
     where
       add_one : (n : ℕ) → n + 1 ≡ suc n

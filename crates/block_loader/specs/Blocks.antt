@@ -25,13 +25,16 @@ use Rattle.block_loader.specs.declared.blocks.SourceBlock.TheVariants as blocks
 abbrev pub code_of : CodeFront → List ℕ → List Token → ℕ → Result (SourceBlock × ℕ) LoadFault
 code_of front text tokens from = do
   body ← body_of text tokens from front.kind front.temps
-  Ok (blocks.Code (record {
-    kind = front.kind;
-    number = front.number;
-    line = front.line;
-    temp = min (size_of front.temps) 4294967295;
-    body = body.0;
-  }), body.1)
+  Ok (
+    blocks.Code (record {
+      kind = front.kind;
+      number = front.number;
+      line = front.line;
+      temp = min (size_of front.temps) 4294967295;
+      body = body.0;
+    }),
+    body.1,
+  )
 
 -- the statements behind a front
 unfoldable pub block_by : Front → List ℕ → List Token → ℕ → Result (SourceBlock × ℕ) LoadFault

@@ -9,7 +9,9 @@ use crate::error::LoadError;
 use crate::heads::{BlockKind, Heading, heading_at, heads_at};
 use s7_base::CodeKind;
 use std::alloc::Global;
-use stl_decl::{Layout, StepError, assignments_at, end_fault, structure_at, temporaries_at, word_at};
+use stl_decl::{
+    Layout, StepError, assignments_at, end_fault, structure_at, temporaries_at, word_at,
+};
 use stl_lex::{Token, Tokens};
 use stl_reader::{Body, body};
 
@@ -202,11 +204,7 @@ fn block_from(
 }
 
 /// { block }
-pub fn blocks_of(
-    alloc: Global,
-    text: &[u8],
-    tokens: &Tokens,
-) -> Result<Vec<SourceBlock>, LoadError>
+pub fn blocks_of(alloc: Global, text: &[u8], tokens: &Tokens) -> Result<Vec<SourceBlock>, LoadError>
     requires text { length text.now ≤ 1048576 }
     requires tokens { length tokens.now ≤ 1048576 }
     ensures { Gives items_of result (blocks_of text.now tokens.now) }

@@ -443,10 +443,7 @@ fn take_missing(names: &[[u8; 2]], found: Option<SourceFault>) -> Option<SourceF
 }
 
 /// The first fault of the whole source.
-pub fn first_fault(
-    alloc: Global,
-    blocks: &[SourceBlock],
-) -> Result<Option<SourceFault>, AllocError>
+pub fn first_fault(alloc: Global, blocks: &[SourceBlock]) -> Result<Option<SourceFault>, AllocError>
     ensures { IfOk result (λ f. f ≡ first_fault blocks.now) }
 {
     let mut names: Vec<[u8; 2]> = Vec::new(alloc);

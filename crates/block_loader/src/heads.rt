@@ -136,11 +136,7 @@ fn type_at<'a>(text: &[u8], tokens: &'a [Token]) -> Result<(Token, &'a [Token]),
 
 /// ":" "VOID" behind a function's number.
 #[tactic(auto, unfolding(crate::specs::Heads::result_at))]
-fn result_at<'a>(
-    text: &[u8],
-    kind: BlockKind,
-    tokens: &'a [Token],
-) -> Result<&'a [Token], Fault>
+fn result_at<'a>(text: &[u8], kind: BlockKind, tokens: &'a [Token]) -> Result<&'a [Token], Fault>
     requires { length text.now ≤ 1048576 }
     ensures { Gives (λ rest. rest.now) result (result_at text.now kind tokens.now) }
 {

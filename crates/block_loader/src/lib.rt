@@ -11,3 +11,6 @@ mod program;
 pub use error::LoadError;
 pub use faults::{SourceFault, least_fault_law};
 pub use loader::load;
+
+#[cfg(test)]
+mod tests;

@@ -33,10 +33,7 @@ fn aim(statements: &mut Vec<Statement>, jump: Jump, target: Option<u32>)
     }
 }
 
-fn without_lines(
-    alloc: Global,
-    statements: &[BodyStatement],
-) -> Result<Vec<Statement>, AllocError>
+fn without_lines(alloc: Global, statements: &[BodyStatement]) -> Result<Vec<Statement>, AllocError>
     ensures { IfOk result (λ v. v.items ≡ map (λ s. s.statement) statements.now) }
 {
     statements.iter().map(|s| s.statement).collect(alloc)
