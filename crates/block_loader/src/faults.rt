@@ -1,0 +1,482 @@
+//! The faults of a whole source whose blocks have been read.
+ghost use Rattle.std.specs.Prelude.{◌≡◌, ◌<◌, ◌≤◌, ◌+◌, ◌^◌, ◌==◌, [], ◌∷◌, ℕ, List, length, drop, IfOk, OnOk, None, Some, map};
+ghost use Rattle.std.specs.Str.{bytes_eq};
+ghost use Rattle.std.specs.List.{flat_map, list_any, list_all};
+ghost use Rattle.indexmap.specs.IndexMap.{get};
+ghost use Rattle.s7_base.specs.Statements.{is_ju, is_jl};
+ghost use Rattle.block_loader.specs.declared.faults.SourceFault.{SourceFault};
+ghost use Rattle.block_loader.specs.Least.{IsLeast};
+ghost use Rattle.block_loader.specs.Faults.{is_before, lesser, least_of, target, with_label, double_label, double_labels, is_far, has_list, at_jump, landing_fault, label_fault, jump_fault, code_faults, inner_faults, kind_byte, name_of, line_of, data_size, total, counted, is_too_large, at_head, head_faults, missing, first_fault, told_of_source};
+
+use crate::blocks::{SourceBlock, SourceCode, SourceData};
+use indexmap::IndexMap;
+use s7_base::{Branch, CodeKind, Operation, Statement, instruction_row};
+use std::alloc::{AllocError, AllocFailed, Global};
+use stl_decl::FaultKind;
+use stl_lex::LoadFault;
+use stl_reader::{BodyStatement, Jump, Label};
+
+/// A fault of the whole source, and its place: the number of its block in the order of the source, from 1, and in
+/// the block 0 at its head, else one more than the number of the statement that it stands at or, of a label, before.
+#[derive(Clone, Copy, Debug, PartialEq, Eq)]
+pub struct SourceFault {
+    pub block: usize,
+    pub statement: usize,
+    pub kind: FaultKind,
+    pub line: u32,
+}
+
+/// What the blocks so far have together, up to a million each.
+#[derive(Clone, Copy, Debug, PartialEq, Eq)]
+pub struct Totals {
+    pub statements: u64,
+    pub bytes: u64,
+    pub pages: u64,
+}
+
+fn is_before(fault: SourceFault, other: SourceFault) -> bool
+    ensures { result ≡ is_before fault other }
+{
+    fault.block < other.block
+        || (fault.block == other.block
+            && (fault.statement < other.statement
+                || (fault.statement == other.statement
+                    && fault.kind.number() < other.kind.number())))
+}
+
+/// The lesser of what was found and this.
+fn lesser(found: Option<SourceFault>, fault: SourceFault) -> Option<SourceFault>
+    ensures { result ≡ lesser found fault }
+{
+    match found {
+        None => Some(fault),
+        Some(other) => {
+            if is_before(fault, other) {
+                Some(fault)
+            } else {
+                Some(other)
+            }
+        }
+    }
+}
+
+/// Takes a label into the names, unless one of its name is there.
+#[tactic(auto, unfolding(crate::specs::Faults::least_of))]
+fn take_label(
+    names: &mut IndexMap<[u8; 4], u32>,
+    block: usize,
+    label: Label,
+    found: Option<SourceFault>,
+) -> Result<Option<SourceFault>, AllocFailed<([u8; 4], u32)>>
+    ensures found { IfOk result (λ f. f ≡ least_of found (double_label block (get bytes_eq names.old label.name) label)) }
+    ensures names { OnOk result ((k : List ℕ) → get bytes_eq names.new k ≡ with_label (get bytes_eq names.old k) k label) }
+{
+    let name = label.name;
+    if names.contains_key(&name) {
+        Ok(lesser(
+            found,
+            SourceFault {
+                block,
+                statement: label.statement as usize + 1,
+                kind: FaultKind::DoubleLabel,
+                line: label.line,
+            },
+        ))
+    } else {
+        names.insert(name, label.statement)?;
+        Ok(found)
+    }
+}
+
+/// The statements that the names stand before, and the least fault with those of double labels.
+pub(crate) fn labels_of(
+    alloc: Global,
+    block: usize,
+    labels: &[Label],
+    found: Option<SourceFault>,
+) -> Result<(IndexMap<[u8; 4], u32>, Option<SourceFault>), AllocError>
+    ensures names { IfOk result (λ x. (k : List ℕ) → get bytes_eq x.0 k ≡ target labels.now k) }
+    ensures found { IfOk result (λ x. x.1 ≡ least_of found (double_labels block [] labels.now)) }
+{
+    let mut names = IndexMap::new(alloc);
+    let mut least = found;
+    for label in labels {
+        least = take_label(&mut names, block, *label, least)?;
+    }
+    Ok((names, least))
+}
+
+/// Whether more than 2,000 statements lie between these.
+fn is_far(target: u32, jump: u32) -> bool
+    ensures { result ≡ is_far target jump }
+{
+    target as u64 + 2000 < jump as u64 || jump as u64 + 2000 < target as u64
+}
+
+fn is_ju(statement: Statement) -> bool
+    ensures { result ≡ is_ju statement }
+{
+    match instruction_row(statement.op) {
+        Some(row) => matches!(row.operation, Operation::Branch(Branch::Ju)),
+        None => false,
+    }
+}
+
+fn is_jl(statement: Statement) -> bool
+    ensures { result ≡ is_jl statement }
+{
+    match instruction_row(statement.op) {
+        Some(row) => matches!(row.operation, Operation::Branch(Branch::Jl)),
+        None => false,
+    }
+}
+
+fn are_ju(statements: &[BodyStatement]) -> bool
+    ensures { result ≡ list_all (λ s. is_ju s.statement) statements.now }
+{
+    statements.iter().all(|s| is_ju(s.statement))
+}
+
+/// Whether between a JL and its target stand 1 to 255 JU and nothing else.
+fn has_list(at: u32, target: u32, after: &[BodyStatement]) -> bool
+    ensures { result ≡ has_list at target after.now }
+{
+    let first = at as usize + 1;
+    let target = target as usize;
+    first < target
+        && target <= first + 255
+        && target - first <= after.len()
+        && are_ju(&after[..target - first])
+}
+
+fn fault_of_jump(block: usize, jump: Jump, kind: FaultKind, line: u32) -> SourceFault
+    ensures { result ≡ record { block = block; statement = jump.statement + 1; kind = kind; line = line } }
+{
+    SourceFault {
+        block,
+        statement: jump.statement as usize + 1,
+        kind,
+        line,
+    }
+}
+
+/// The fault of a jump whose label is there, if it is one.
+#[tactic(auto, unfolding(crate::specs::Faults::least_of))]
+fn take_landing(
+    block: usize,
+    jump: Jump,
+    target: u32,
+    statement: BodyStatement,
+    after: &[BodyStatement],
+    found: Option<SourceFault>,
+) -> Option<SourceFault>
+    ensures { result ≡ least_of found (landing_fault block jump target statement after.now) }
+{
+    if is_jl(statement.statement) && !has_list(jump.statement, target, after) {
+        return lesser(
+            found,
+            fault_of_jump(block, jump, FaultKind::NoLabel, statement.line),
+        );
+    }
+    if is_far(target, jump.statement) {
+        return lesser(
+            found,
+            fault_of_jump(block, jump, FaultKind::JumpTooFar, statement.line),
+        );
+    }
+    found
+}
+
+#[tactic(auto, unfolding(crate::specs::Faults::least_of))]
+fn take_label_of(
+    block: usize,
+    jump: Jump,
+    target: Option<u32>,
+    statement: BodyStatement,
+    after: &[BodyStatement],
+    found: Option<SourceFault>,
+) -> Option<SourceFault>
+    ensures { result ≡ least_of found (label_fault block jump target statement after.now) }
+{
+    match target {
+        None => lesser(
+            found,
+            fault_of_jump(block, jump, FaultKind::NoLabel, statement.line),
+        ),
+        Some(target) => take_landing(block, jump, target, statement, after, found),
+    }
+}
+
+/// The statements behind this one.
+fn behind(statements: &[BodyStatement], n: u32) -> &[BodyStatement]
+    ensures { result.now ≡ drop (n + 1) statements.now }
+{
+    let first = (n as usize + 1).min(statements.len());
+    &statements[first..]
+}
+
+#[tactic(auto, unfolding(crate::specs::Faults::jump_fault, crate::specs::Faults::least_of))]
+fn take_jump(
+    block: usize,
+    statements: &[BodyStatement],
+    target: Option<u32>,
+    jump: Jump,
+    found: Option<SourceFault>,
+) -> Option<SourceFault>
+    ensures { result ≡ least_of found (jump_fault block statements.now target jump) }
+{
+    match statements.get(jump.statement as usize) {
+        Some(statement) => take_label_of(
+            block,
+            jump,
+            target,
+            *statement,
+            behind(statements, jump.statement),
+            found,
+        ),
+        None => found,
+    }
+}
+
+/// The least fault with those of the jumps.
+fn take_jumps(
+    names: &IndexMap<[u8; 4], u32>,
+    block: usize,
+    statements: &[BodyStatement],
+    jumps: &[Jump],
+    found: Option<SourceFault>,
+) -> Option<SourceFault>
+    ensures { result ≡ least_of found (flat_map (λ j. jump_fault block statements.now (get bytes_eq names.now j.name) j) jumps.now) }
+{
+    let mut least = found;
+    for jump in jumps {
+        let name = jump.name;
+        let target = names.get(&name).copied();
+        least = take_jump(block, statements, target, *jump, least);
+    }
+    least
+}
+
+/// The least fault with those inside a code block.
+fn take_code(
+    alloc: Global,
+    block: usize,
+    code: &SourceCode,
+    found: Option<SourceFault>,
+) -> Result<Option<SourceFault>, AllocError>
+    ensures { IfOk result (λ f. f ≡ least_of found (code_faults block code.now)) }
+{
+    let (names, least) = labels_of(alloc, block, code.body.labels(), found)?;
+    Ok(take_jumps(
+        &names,
+        block,
+        code.body.statements(),
+        code.body.jumps(),
+        least,
+    ))
+}
+
+/// The least fault with those inside a block.
+#[tactic(auto, unfolding(crate::specs::Faults::least_of))]
+fn take_inner(
+    alloc: Global,
+    block: usize,
+    source: &SourceBlock,
+    found: Option<SourceFault>,
+) -> Result<Option<SourceFault>, AllocError>
+    ensures { IfOk result (λ f. f ≡ least_of found (inner_faults block source.now)) }
+{
+    match source {
+        SourceBlock::Code(code) => take_code(alloc, block, code, found),
+        SourceBlock::Data(_) => Ok(found),
+    }
+}
+
+impl SourceBlock {
+    /// Kind and number.
+    fn name(&self) -> [u8; 2]
+        ensures { result ≡ name_of self.now }
+    {
+        match self {
+            SourceBlock::Code(code) => [kind_byte(code.kind), code.number],
+            SourceBlock::Data(data) => [3, data.number],
+        }
+    }
+
+    /// The line of its head.
+    fn line(&self) -> u32
+        ensures { result ≡ line_of self.now }
+    {
+        match self {
+            SourceBlock::Code(code) => code.line,
+            SourceBlock::Data(data) => data.line,
+        }
+    }
+}
+
+pub(crate) fn kind_byte(kind: CodeKind) -> u8
+    ensures { result ≡ kind_byte kind }
+{
+    match kind {
+        CodeKind::Ob => 0,
+        CodeKind::Fb => 1,
+        CodeKind::Fc => 2,
+    }
+}
+
+/// A total with so many more, up to a million.
+fn total(so_far: u64, more: u64) -> u64
+    requires so_far { so_far ≤ 1000000 }
+    requires more { more < 2 ^ 63 }
+    ensures exact { result ≡ total so_far more }
+    ensures within { result ≤ 1000000 }
+{
+    (so_far + more).min(1_000_000)
+}
+
+/// The totals with one block more.
+fn counted(totals: Totals, block: &SourceBlock) -> Totals
+    requires statements { totals.statements ≤ 1000000 }
+    requires bytes { totals.bytes ≤ 1000000 }
+    requires pages { totals.pages ≤ 1000000 }
+    ensures exact { result ≡ counted totals block.now }
+    ensures statements { result.statements ≤ 1000000 }
+    ensures bytes { result.bytes ≤ 1000000 }
+    ensures pages { result.pages ≤ 1000000 }
+{
+    match block {
+        SourceBlock::Code(code) => Totals {
+            statements: total(totals.statements, code.body.statements().len() as u64),
+            bytes: totals.bytes,
+            pages: totals.pages,
+        },
+        SourceBlock::Data(data) => {
+            let size = data.layout.size() as u64;
+            Totals {
+                statements: totals.statements,
+                bytes: total(totals.bytes, size),
+                pages: total(totals.pages, (size + 255) / 256),
+            }
+        }
+    }
+}
+
+/// Whether a limit is passed with this block: its own or that of the whole.
+fn is_too_large(totals: Totals, block: &SourceBlock) -> bool
+    ensures { result ≡ is_too_large totals block.now }
+{
+    match block {
+        SourceBlock::Code(code) => {
+            code.body.statements().len() > 4000 || totals.statements > 12_000 || code.temp > 256
+        }
+        SourceBlock::Data(data) => {
+            data.layout.size() > 8192 || totals.bytes > 32_768 || totals.pages > 256
+        }
+    }
+}
+
+/// The least fault with this one at a block's head, where it is there.
+#[tactic(auto, unfolding(crate::specs::Faults::least_of))]
+fn take_at_head(
+    there: bool,
+    number: usize,
+    kind: FaultKind,
+    block: &SourceBlock,
+    found: Option<SourceFault>,
+) -> Option<SourceFault>
+    ensures { result ≡ least_of found (at_head there number kind block.now) }
+{
+    if there {
+        lesser(
+            found,
+            SourceFault {
+                block: number,
+                statement: 0,
+                kind,
+                line: block.line(),
+            },
+        )
+    } else {
+        found
+    }
+}
+
+/// The least fault with those at a block's head.
+fn take_head(
+    taken: bool,
+    number: usize,
+    totals: Totals,
+    block: &SourceBlock,
+    found: Option<SourceFault>,
+) -> Option<SourceFault>
+    ensures { result ≡ least_of found (head_faults taken number totals block.now) }
+{
+    let double = take_at_head(taken, number, FaultKind::DoubleBlock, block, found);
+    let many = take_at_head(
+        number == 257,
+        number,
+        FaultKind::TooManyBlocks,
+        block,
+        double,
+    );
+    let too_large = is_too_large(totals, block);
+    take_at_head(too_large, number, FaultKind::TooLarge, block, many)
+}
+
+#[tactic(auto, unfolding(crate::specs::Faults::least_of))]
+fn take_missing(names: &[[u8; 2]], found: Option<SourceFault>) -> Option<SourceFault>
+    ensures { result ≡ least_of found (missing (list_any (λ n. bytes_eq n (0 ∷ 1 ∷ [])) names.now)) }
+{
+    if names.contains(&[0, 1]) {
+        found
+    } else {
+        lesser(
+            found,
+            SourceFault {
+                block: 0,
+                statement: 0,
+                kind: FaultKind::NoOb1,
+                line: 0,
+            },
+        )
+    }
+}
+
+/// The first fault of the whole source.
+pub fn first_fault(alloc: Global, blocks: &[SourceBlock]) -> Result<Option<SourceFault>, AllocError>
+    ensures { IfOk result (λ f. f ≡ first_fault blocks.now) }
+{
+    let mut names: Vec<[u8; 2]> = Vec::new(alloc);
+    let mut totals = Totals {
+        statements: 0,
+        bytes: 0,
+        pages: 0,
+    };
+    let mut least = None;
+    for block in blocks {
+        let name = block.name();
+        let taken = names.contains(&name);
+        names.push(name)?;
+        totals = counted(totals, block);
+        least = take_head(taken, names.len(), totals, block, least);
+        least = take_inner(alloc, names.len(), block, least)?;
+    }
+    Ok(take_missing(names.as_slice(), least))
+}
+
+/// What is told of a fault.
+pub fn told_of_source(fault: SourceFault) -> LoadFault
+    ensures { result ≡ told_of_source fault }
+{
+    LoadFault {
+        kind: fault.kind.number(),
+        line: fault.line,
+    }
+}
+
+/// The fault that is found is one of all faults, and none of them stands before it. None is found only where there
+/// is none.
+pub fn least_fault_law()
+    ensures some { (fs : List SourceFault) (f : SourceFault) → least_of None fs ≡ Some f → IsLeast f fs }
+    ensures none { (fs : List SourceFault) → least_of None fs ≡ None → fs ≡ [] }
+{}

@@ -1,0 +1,16 @@
+//! Loads a source: its blocks, or its first fault.
+#![tactic(auto)]
+
+mod blocks;
+mod error;
+mod faults;
+mod heads;
+mod loading;
+
+pub use error::LoadError;
+pub use faults::{SourceFault, least_fault_law};
+pub use loading::load;
+pub use stl_lex::LoadFault;
+
+#[cfg(test)]
+mod tests;
