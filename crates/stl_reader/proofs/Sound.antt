@@ -17,7 +17,7 @@ use Rattle.stl_reader.specs.declared.items.BodyStatement.{BodyStatement}
 use Rattle.stl_reader.specs.declared.items.LabelName.{LabelName}
 use Rattle.stl_reader.specs.declared.items.Item.{Item}
 use Rattle.stl_reader.specs.Statements.{statement_at}
-use Rattle.stl_reader.specs.Items.{end_word, block_locals, label_at, bare, labelled_item, labelled_at, item_by, item_at, is_heading, part_at}
+use Rattle.stl_reader.specs.Items.{end_word, block_locals, label_at, bare, labelled_item, labelled_at, second_label, behind_label, item_by, item_at, is_heading, part_at}
 use Rattle.stl_reader.specs.Contents.{Contents}
 use Rattle.stl_reader.specs.Reading.{empty, labels_of, jumps_of, adds, turned, body_turn, parts_at}
 use Rattle.stl_reader.specs.Sound.{jump_place, jump_places, IsSound}
@@ -55,7 +55,11 @@ module _ (text : List ℕ) (kind : CodeKind) (temps : Section) where
       by false false e = labelled_item_takes label t (t ∷ ts) x e
 
   item_takes : (found : Option (LabelName × List Token)) (tokens : List Token) (x : Item × List Token) → item_by found text kind temps tokens ≡ Ok x → IsGood (block_locals kind temps) x.0
-  item_takes (Some y) tokens x e = labelled_takes (Some y.0) y.1 x e
+  item_takes (Some y) tokens x e = by (second_label text y.1) e
+    where
+      by : (o : Option Fault) → behind_label o text kind temps y.0 y.1 ≡ Ok x → IsGood (block_locals kind temps) x.0
+      by None e = labelled_takes (Some y.0) y.1 x e
+      by (Some f) e = absurd cc
   item_takes None tokens x e = labelled_takes None tokens x e
 
   pub part_takes : (tokens : List Token) (item : Item) (rest : List Token) → part_at text kind temps tokens ≡ Ok (Some item, rest) → IsGood (block_locals kind temps) item

@@ -1,5 +1,6 @@
 -- What a body consists of: labels, statements, and headings of networks.
 use Rattle.std.specs.Prelude.{ℕ, List, [], ◌∷◌, ◌&&◌, ◌||◌, min, Bool, true, false, Option, Some, None, Result, Ok, Err, if◌then◌else◌, codes}
+use Rattle.std.specs.Option.{is_some}
 use Rattle.s7_base.specs.declared.blocks.CodeKind.{CodeKind}
 use Rattle.s7_base.specs.declared.blocks.CodeKind.TheVariants.{Ob, Fb, Fc}
 use Rattle.s7_base.specs.Limits.{locals_of}
@@ -7,7 +8,8 @@ use Rattle.stl_lex.specs.declared.piece.TokenKind.{TokenKind}
 use Rattle.stl_lex.specs.declared.piece.TokenKind.TheVariants as kinds
 use Rattle.stl_lex.specs.declared.token.Token.{Token}
 use Rattle.stl_decl.specs.declared.fault.Fault.{Fault}
-use Rattle.stl_decl.specs.Steps.{◌>>=◌, spelling, end_fault, is_word_kind, is_sign, is_word}
+use Rattle.stl_decl.specs.declared.fault.FaultKind.TheVariants.{UnknownInstruction}
+use Rattle.stl_decl.specs.Steps.{◌>>=◌, spelling, end_fault, fault_at, is_word_kind, is_sign, is_word}
 use Rattle.stl_decl.specs.Layout.{Section, size_of}
 use Rattle.stl_reader.specs.declared.items.LabelName.{LabelName}
 use Rattle.stl_reader.specs.declared.items.Item.{Item}
@@ -53,8 +55,17 @@ labelled_at text kind temps label (t ∷ ts) =
     else (if is_sign text t (codes ";") then Ok (bare label, ts)
     else labelled_item text kind temps label t (t ∷ ts))
 
+-- a second label before one statement
+abbrev pub second_label : List ℕ → List Token → Option Fault
+second_label text [] = None
+second_label text (t ∷ ts) = if is_some (label_at text (t ∷ ts)) then Some (fault_at UnknownInstruction t) else None
+
+abbrev pub behind_label : Option Fault → List ℕ → CodeKind → Section → LabelName → List Token → Result (Item × List Token) Fault
+behind_label None text kind temps label tokens = labelled_at text kind temps (Some label) tokens
+behind_label (Some f) text kind temps label tokens = Err f
+
 abbrev pub item_by : Option (LabelName × List Token) → List ℕ → CodeKind → Section → List Token → Result (Item × List Token) Fault
-item_by (Some x) text kind temps tokens = labelled_at text kind temps (Some x.0) x.1
+item_by (Some x) text kind temps tokens = behind_label (second_label text x.1) text kind temps x.0 x.1
 item_by None text kind temps tokens = labelled_at text kind temps None tokens
 
 -- [ label ":" ] [ mnemonic [ operand ] ] ";"

@@ -2,13 +2,15 @@
 ghost use Rattle.std.specs.Prelude.{◌≡◌, ◌≤◌, length};
 ghost use Rattle.std.specs.Option.{option_map};
 ghost use Rattle.stl_decl.specs.Steps.{GivesOr, at_rest};
-ghost use Rattle.stl_reader.specs.Items.{end_word, block_locals, label_at, bare, labelled_item, labelled_at, is_heading, item_at, part_at};
+ghost use Rattle.stl_reader.specs.Items.{end_word, block_locals, label_at, bare, labelled_item, labelled_at, second_label, behind_label, is_heading, item_at, part_at};
 
 use crate::operands::label_name;
 use crate::statements::statement_at;
 use s7_base::{CodeKind, Statement};
 use std::alloc::Global;
-use stl_decl::{Layout, StepError, end_fault, is_sign, is_word, next, spelling};
+use stl_decl::{
+    Fault, FaultKind, Layout, StepError, end_fault, fault_at, is_sign, is_word, next, spelling,
+};
 use stl_lex::{Token, TokenKind};
 
 /// A statement, and the line of its mnemonic.
@@ -138,6 +140,36 @@ fn labelled_at<'a>(
     labelled_item(alloc, text, kind, temps, label, first, tokens)
 }
 
+/// The fault of a second label before one statement.
+fn second_label(text: &[u8], tokens: &[Token]) -> Option<Fault>
+    ensures { result ≡ second_label text.now tokens.now }
+{
+    let (first, _) = next(tokens)?;
+    if label_at(text, tokens).is_some() {
+        Some(fault_at(FaultKind::UnknownInstruction, first))
+    } else {
+        None
+    }
+}
+
+/// What stands behind a label.
+fn behind_label<'a>(
+    alloc: Global,
+    text: &[u8],
+    kind: CodeKind,
+    temps: &Layout,
+    label: LabelName,
+    tokens: &'a [Token],
+) -> Result<(Item, &'a [Token]), StepError>
+    requires { length text.now ≤ 1048576 }
+    ensures { GivesOr at_rest result (behind_label (second_label text.now tokens.now) text.now kind temps.now label tokens.now) }
+{
+    match second_label(text, tokens) {
+        Some(fault) => Err(StepError::Fault(fault)),
+        None => labelled_at(alloc, text, kind, temps, Some(label), tokens),
+    }
+}
+
 /// [ label ":" ] [ mnemonic [ operand ] ] ";"
 #[tactic(auto, unfolding(crate::specs::Items::item_at))]
 fn item_at<'a>(
@@ -151,7 +183,7 @@ fn item_at<'a>(
     ensures { GivesOr at_rest result (item_at text.now kind temps.now tokens.now) }
 {
     match label_at(text, tokens) {
-        Some((label, rest)) => labelled_at(alloc, text, kind, temps, Some(label), rest),
+        Some((label, rest)) => behind_label(alloc, text, kind, temps, label, rest),
         None => labelled_at(alloc, text, kind, temps, None, tokens),
     }
 }

@@ -535,7 +535,7 @@ fn operands_left_out(rt: HostRuntime) -> Result<(), Fail> {
 
 #[test]
 fn statements_at_fault(rt: HostRuntime) -> Result<(), Fail> {
-    let rows: [(&[u8], (u32, u32)); 41] = [
+    let rows: [(&[u8], (u32, u32)); 42] = [
         (b"L 1.5; END_FUNCTION", (10, 1)),
         (b"L\n-1.5; END_FUNCTION", (10, 2)),
         (b"L 1E5; END_FUNCTION", (10, 1)),
@@ -565,6 +565,7 @@ fn statements_at_fault(rt: HostRuntime) -> Result<(), Fail> {
         (b"LABEL: NOP 0;", (9, 1)),
         (b"LEAVE\n: NOP 0;", (13, 1)),
         (b"M001:\nM002: NOP 0;", (9, 2)),
+        (b"M001:\nA: NOP 0;", (9, 2)),
         (b"A\n(;", (11, 2)),
         (b"+\nI;", (11, 2)),
         (b"FOO;", (9, 1)),
