@@ -5,3 +5,4 @@ pub mod Blocks
 pub mod Faults
 pub mod Least
 pub mod Load
+pub mod Sound

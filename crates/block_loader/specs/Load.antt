@@ -3,7 +3,6 @@ use Rattle.std.specs.Prelude.{◌≡◌, ℕ, List, [], ◌∷◌, map, min, len
 use Rattle.std.specs.List.{fold, insert, filter}
 use Rattle.s7_base.specs.declared.statement.Statement.{Statement}
 use Rattle.s7_base.specs.Blocks as programs
-use Rattle.s7_base.specs.Limits.{IsWellFormed}
 use Rattle.stl_lex.specs.declared.fault.LoadFault.{LoadFault}
 use Rattle.stl_lex.specs.Tokens.{text_tokens}
 use Rattle.stl_decl.specs.Layout.{Section, size_of}
@@ -85,16 +84,8 @@ sources_of text = text_tokens text >>= λ tokens. (blocks_of text tokens >>= jud
 unfoldable pub meaning_of : List ℕ → Result programs.Program LoadFault
 meaning_of text = sources_of text >>= λ blocks. Ok (program_of blocks)
 
--- what is told of a program that would not be well formed
-abbrev pub not_formed : LoadFault
-not_formed = record { kind = 99; line = 0 }
-
-abbrev pub IsRefused : LoadFault → Result programs.Program LoadFault → Type 0
-IsRefused f (Err g) = g ≡ f
-IsRefused f (Ok program) = (f ≡ not_formed) × (IsWellFormed program → ⊥)
-
 -- what was returned is the program of the source, or its first fault, unless memory ran out
 abbrev pub Loads : List ℕ → Result programs.Program LoadError → Type 0
-Loads text (Ok program) = (meaning_of text ≡ Ok program) × IsWellFormed program
-Loads text (Err (errors.Fault f)) = IsRefused f (meaning_of text)
+Loads text (Ok program) = meaning_of text ≡ Ok program
+Loads text (Err (errors.Fault f)) = meaning_of text ≡ Err f
 Loads text (Err errors.NoMemory) = Unit {0}

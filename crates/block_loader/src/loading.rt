@@ -3,6 +3,7 @@ ghost use Rattle.std.specs.Prelude.{◌≡◌, ◌≤◌, ℕ, List, length, map
 ghost use Rattle.std.specs.List.{fold, filter};
 ghost use Rattle.std.specs.Str.{bytes_eq};
 ghost use Rattle.indexmap.specs.IndexMap.{get};
+ghost use Rattle.s7_base.specs.Limits.{IsWellFormed};
 ghost use Rattle.block_loader.specs.Told.{Gives};
 ghost use Rattle.block_loader.specs.Blocks.{items_of};
 ghost use Rattle.block_loader.specs.declared.error.LoadError.TheVariants.{NoMemory};
@@ -17,7 +18,7 @@ use s7_base::{Blocks, CodeBlock, DataBlock, Statement};
 use std::alloc::{AllocError, AllocFailed, Global};
 use std::marker::Model;
 use stl_decl::{Layout, first_bytes};
-use stl_lex::{LoadFault, tokens};
+use stl_lex::tokens;
 use stl_reader::{Body, BodyStatement, Jump};
 
 /// The lists of a program so far.
@@ -208,17 +209,20 @@ fn sources_of(alloc: Global, text: &[u8]) -> Result<Vec<SourceBlock>, LoadError>
 
 /// The blocks of the program that a source has.
 ///
-/// `Fault` with the kind and line of its first fault; kind 99, line 0, where its program would not be well formed.
-/// `NoMemory` where memory runs out.
+/// # Errors
+///
+/// `Fault` with the kind and line of its first fault; `NoMemory` where memory runs out.
 #[tactic(auto, unfolding(crate::specs::Load::meaning_of))]
 pub fn load(alloc: Global, text: &[u8]) -> Result<Blocks, LoadError>
     requires text { length text.now ≤ 1048576 }
-    ensures { Loads text.now result }
+    // What it gives is the program of the source, or the first fault.
+    ensures exact { Loads text.now result }
+    ensures well_formed { IfOk result IsWellFormed }
 {
     let sources = sources_of(alloc, text)?;
     let parts = parts_of(alloc, sources.as_slice())?;
-    match Blocks::of(parts.codes, parts.data_blocks) {
-        Some(blocks) => Ok(blocks),
-        None => Err(LoadError::Fault(LoadFault { kind: 99, line: 0 })),
-    }
+    let Some(blocks) = Blocks::of(parts.codes, parts.data_blocks) else {
+        unreachable!();
+    };
+    Ok(blocks)
 }
