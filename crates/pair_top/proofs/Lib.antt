@@ -1,10 +1,7 @@
 pub mod Due
-pub mod Numbers
+pub mod LoadsDue
 pub mod Patterns
 pub mod Pieces
 pub mod PlayedOut
 pub mod Plays
 pub mod Serves
-pub mod SourceBlocks
-pub mod SourceLaws
-pub mod SourceLoop

@@ -1,12 +1,11 @@
 pub mod Fields
+pub mod Loading
 pub mod Orders
 pub mod Pattern
 pub mod PatternView
 pub mod Playing
 pub mod Reading
 pub mod Serving
-pub mod SourceReading
-pub mod SourceText
 pub mod Statuses
 pub mod Words
 pub mod WordsView

@@ -25,19 +25,7 @@ abbrev pub mode_for : Manner → Mode
 mode_for alone = Solo
 mode_for (by_turns visits) = Pair
 
--- a command, with the names of its files
+-- a command, with the names of its files: to play a source and a script, or to tell the blocks of a source
 pub data Order : Type 0 where
-  solo : (source script : List ℕ) → Order
-  turns : (source script : List ℕ) (visits : List Side) → Order
-
-abbrev pub source_of : Order → List ℕ
-source_of (solo source script) = source
-source_of (turns source script visits) = source
-
-abbrev pub script_of : Order → List ℕ
-script_of (solo source script) = script
-script_of (turns source script visits) = script
-
-abbrev pub manner_of : Order → Manner
-manner_of (solo source script) = alone
-manner_of (turns source script visits) = by_turns visits
+  play : (manner : Manner) (source script : List ℕ) → Order
+  load : (source : List ℕ) → Order

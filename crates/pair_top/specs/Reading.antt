@@ -1,15 +1,14 @@
 -- What it means that a file was read, and accepted or refused.
-use Rattle.std.specs.Prelude.{◌≡◌, ℕ, ◌<◌, ◌≤◌, List, length, Option, IfSome}
+use Rattle.std.specs.Prelude.{◌≡◌, ℕ, ◌<◌, ◌≤◌, List, length, Option, IfSome, Result, Ok, Err}
 use Rattle.pair_io.specs.Causes.{Rose}
-use Rattle.s7_base.specs.declared.instruction.BitInstruction.{BitInstruction}
-use Rattle.s7_base.specs.Blocks.{Program}
+use Rattle.s7_base.specs.Blocks.{Program, IsPlayable}
+use Rattle.stl_lex.specs.declared.fault.LoadFault.{LoadFault}
+use Rattle.block_loader.specs.Load.{meaning_of}
 use Rattle.pair_top.specs.declared.faults.Fault.{Fault}
 use Rattle.pair_top.specs.declared.faults.Fault.TheVariants.{Usage, FileFault, TooLong, SourceFault, ScriptFault, SinkFault, NoMemory, Differs}
-use Rattle.pair_top.specs.declared.faults.LoadFault as loads
 use Rattle.plant_script.specs.declared.script_error.ScriptFault as scripts
 use Rattle.pair_top.specs.declared.reading.TheConstants.{LIMIT}
 use Rattle.plant_script.specs.Plan.{Plan}
-use Rattle.pair_top.specs.SourceText.{IsSource, main_program}
 use Rattle.plant_script.specs.ScriptText.{IsScript}
 
 -- a file in a call: its content where it is told, and the count of its faults before the call and after it
@@ -38,23 +37,37 @@ pub record WasRead (content : Option (List ℕ)) (bytes : List ℕ) : Type 0 whe
 abbrev pub IsTooLong : Option (List ℕ) → Type 0
 IsTooLong content = IfSome content (λ told. LIMIT < length told)
 
--- a source of this program
-pub record IsSourceOf (bytes : List ℕ) (program : Program) : Type 0 where
-  pub instructions : List BitInstruction
-  pub written : IsSource bytes instructions
-  pub meaning : program ≡ main_program instructions
+-- a file was read whole, and its source has this program
+pub record IsLoaded (content : Option (List ℕ)) (program : Program) : Type 0 where
+  pub bytes : List ℕ
+  pub read : WasRead content bytes
+  pub meaning : meaning_of bytes ≡ Ok program
 
--- a file was read whole, and is a source of this program
+-- a file was read whole, and this is the first fault of its source
+pub record IsFaulty (content : Option (List ℕ)) (fault : LoadFault) : Type 0 where
+  pub bytes : List ℕ
+  pub read : WasRead content bytes
+  pub meaning : meaning_of bytes ≡ Err fault
+
+-- a file was read whole, and its source has this program, which is one that is played
 pub record IsAccepted (content : Option (List ℕ)) (program : Program) : Type 0 where
-  pub bytes : List ℕ
-  pub read : WasRead content bytes
-  pub source : IsSourceOf bytes program
+  pub loaded : IsLoaded content program
+  pub played : IsPlayable program
 
--- a file was read whole, and is no source
-pub record IsNoSource (content : Option (List ℕ)) : Type 0 where
+-- the fault of a source without faults whose program isn't played
+abbrev pub source_not_built : LoadFault
+source_not_built = record { kind = 99; line = 0 }
+
+-- why a source isn't played: its first fault, or that its program is none of those that are played
+abbrev pub IsNotPlayed : LoadFault → Result Program LoadFault → Type 0
+IsNotPlayed fault (Err first) = fault ≡ first
+IsNotPlayed fault (Ok program) = (fault ≡ source_not_built) × (IsPlayable program → ⊥)
+
+-- a file was read whole, and its source isn't played
+pub record IsNoSource (content : Option (List ℕ)) (fault : LoadFault) : Type 0 where
   pub bytes : List ℕ
   pub read : WasRead content bytes
-  pub none : (instructions : List BitInstruction) → IsSource bytes instructions → ⊥
+  pub cause : IsNotPlayed fault (meaning_of bytes)
 
 -- a file was read whole, and is a script of this plan
 pub record IsPlanned (content : Option (List ℕ)) (plan : Plan) : Type 0 where
@@ -68,10 +81,7 @@ pub record IsNoScript (content : Option (List ℕ)) : Type 0 where
   pub read : WasRead content bytes
   pub none : (plan : Plan) → IsScript bytes plan → ⊥
 
--- the fault of a source and of a script of another form than those that are played
-abbrev pub source_not_built : loads.LoadFault
-source_not_built = record { kind = 99; line = 0 }
-
+-- the fault of a script of another form than those that are played
 abbrev pub script_not_built : scripts.ScriptFault
 script_not_built = record { kind = 99; line = 0 }
 
@@ -86,11 +96,22 @@ IsReadRefusal which file (ScriptFault fault) = ⊥
 IsReadRefusal which file SinkFault = ⊥
 IsReadRefusal which file (Differs line) = ⊥
 
--- why a source was refused
+-- why a source was not loaded
+abbrev pub IsLoadRefusal : File → Fault → Type 0
+IsLoadRefusal file (FileFault which) = (which ≡ 0) × HasFailed file
+IsLoadRefusal file (TooLong which) = (which ≡ 0) × IsTooLong file.content
+IsLoadRefusal file (SourceFault fault) = IsFaulty file.content fault
+IsLoadRefusal file NoMemory = Unit {0}
+IsLoadRefusal file Usage = ⊥
+IsLoadRefusal file (ScriptFault fault) = ⊥
+IsLoadRefusal file SinkFault = ⊥
+IsLoadRefusal file (Differs line) = ⊥
+
+-- why a source was refused for a play
 abbrev pub IsSourceRefusal : File → Fault → Type 0
 IsSourceRefusal file (FileFault which) = (which ≡ 0) × HasFailed file
 IsSourceRefusal file (TooLong which) = (which ≡ 0) × IsTooLong file.content
-IsSourceRefusal file (SourceFault fault) = (fault ≡ source_not_built) × IsNoSource file.content
+IsSourceRefusal file (SourceFault fault) = IsNoSource file.content fault
 IsSourceRefusal file NoMemory = Unit {0}
 IsSourceRefusal file Usage = ⊥
 IsSourceRefusal file (ScriptFault fault) = ⊥

@@ -1,12 +1,12 @@
 -- What a call of the program answers and leaves.
-use Rattle.std.specs.Prelude.{◌≡◌, ℕ, zero, suc, ◌≤◌, ◌<◌, Bool, List, [], length, Option, Some, None}
+use Rattle.std.specs.Prelude.{◌≡◌, ℕ, zero, suc, ◌≤◌, ◌<◌, Bool, List, [], length, Option, Some, None, Result, Ok}
 use Rattle.std.specs.Io.KnownBytes.{Appends}
 use Rattle.pair_io.specs.Bytes.{AppendsFront}
 use Rattle.pair_io.specs.Causes.{Rose}
 use Rattle.s7_base.specs.declared.entry.Side.{Side}
 use Rattle.s7_base.specs.declared.entry.Side.TheVariants.{A, B}
 use Rattle.s7_base.specs.declared.entry.Entry.{Entry}
-use Rattle.s7_base.specs.Blocks.{Program}
+use Rattle.s7_base.specs.Blocks.{Program, IsPlayable}
 use Rattle.pair_core.specs.declared.endings.Ended.{Ended}
 use Rattle.pair_core.specs.declared.endings.Ended.TheVariants.{NotPlayed}
 use Rattle.pair_top.specs.declared.faults.Fault.{Fault}
@@ -17,14 +17,14 @@ use Rattle.subsystem.specs.Part.{Part, IsOpen}
 use Rattle.pair_core.specs.Played.{IsRun, IsSideOf, answers_of}
 use Rattle.pair_core.specs.World.{Setup, World, first_world, play}
 use Rattle.pair_core.specs.Finished.{ended_by}
-use Rattle.pair_top.specs.Reading.{File, IsSteady, HasFailed, IsTooLong, IsAccepted, IsPlanned, IsNoSource, IsNoScript, IsSourceOf, source_not_built, script_not_built}
-use Rattle.s7_base.specs.declared.instruction.BitInstruction.{BitInstruction}
-use Rattle.pair_top.specs.SourceText.{IsSource}
+use Rattle.pair_top.specs.Reading.{File, IsSteady, HasFailed, IsTooLong, IsAccepted, IsPlanned, IsNoSource, IsNoScript, IsNotPlayed, script_not_built}
+use Rattle.stl_lex.specs.declared.fault.LoadFault.{LoadFault}
+use Rattle.block_loader.specs.Load.{meaning_of}
 use Rattle.plant_script.specs.ScriptText.{IsScript}
 use Rattle.pair_core.specs.CpuTail.{tail_of}
 use Rattle.pair_core.specs.Tail.{Tail}
 use Rattle.pair_core.specs.Text.{HasTail, text}
-use Rattle.pair_top.specs.Orders.{Manner, is_alone, visits_for, mode_for, Order, source_of, script_of, manner_of}
+use Rattle.pair_top.specs.Orders.{Manner, is_alone, visits_for, mode_for}
 use Rattle.pair_top.specs.Playing.{ComesTo}
 
 -- a call --
@@ -85,11 +85,15 @@ pub record AreAccepted (source script : Option (List ℕ)) (program : Program) (
   pub accepted : IsAccepted source program
   pub planned : IsPlanned script plan
 
--- nothing was played and nothing written
-pub record IsQuiet (sink : Written) (account : Account) : Type 0 where
+-- nothing was played
+pub record IsUnplayed (account : Account) : Type 0 where
   pub entries : account.entries ≡ []
   pub shown : account.shown ≡ []
   pub ended : account.ended ≡ NotPlayed
+
+-- nothing was played and nothing written
+pub record IsQuiet (sink : Written) (account : Account) : Type 0 where
+  pub unplayed : IsUnplayed account
   pub bytes : sink.new ≡ sink.old
   pub faults : sink.now ≡ sink.before
 
@@ -101,7 +105,7 @@ IsRefusal source script (FileFault (suc (suc n))) = ⊥
 IsRefusal source script (TooLong zero) = IsTooLong source.content
 IsRefusal source script (TooLong (suc zero)) = (program : Program) × IsAccepted source.content program × IsTooLong script.content
 IsRefusal source script (TooLong (suc (suc n))) = ⊥
-IsRefusal source script (SourceFault fault) = (fault ≡ source_not_built) × IsNoSource source.content
+IsRefusal source script (SourceFault fault) = IsNoSource source.content fault
 IsRefusal source script (ScriptFault fault) = (fault ≡ script_not_built) × (program : Program) × IsAccepted source.content program × IsNoScript script.content
 IsRefusal source script NoMemory = Unit {0}
 IsRefusal source script Usage = ⊥
@@ -149,13 +153,6 @@ PlayServed manner source script sink account a b None = IsPlayOf manner source s
 PlayServed manner source script sink account a b (Some SinkFault) = IsPlayOf manner source script sink account a b (Some SinkFault)
 PlayServed manner source script sink account a b (Some fault) = IsRefusal source script fault × IsQuiet sink account
 
--- What a call answers and leaves, by its command.
-abbrev pub Served : Option Order → (List ℕ → File) → Written → Account → Part → Part → Option Fault → Type 0
-Served None file sink account a b fault = (fault ≡ Some Usage) × IsQuiet sink account
-Served (Some order) file sink account a b fault =
-    PlayServed (manner_of order) (file (source_of order)) (file (script_of order)) sink account a b fault
-    × AreSteady fault (file (source_of order)) (file (script_of order))
-
 -- completeness --
 
 -- done to its end, but for want of memory
@@ -182,18 +179,19 @@ pub record TellsTooMuch (file : File) : Type 0 where
   pub told : file.content ≡ Some bytes
   pub long : LIMIT < length bytes
 
--- a file tells a source
+-- a file tells a source whose program is one that is played
 pub record TellsSource (file : File) : Type 0 where
   pub bytes : List ℕ
   pub tells : Tells file bytes
   pub program : Program
-  pub source : IsSourceOf bytes program
+  pub meaning : meaning_of bytes ≡ Ok program
+  pub played : IsPlayable program
 
--- a file tells bytes that are no source
-pub record TellsNoSource (file : File) : Type 0 where
+-- a file tells a source that isn't played, with this fault
+pub record TellsNoSource (file : File) (due : LoadFault) : Type 0 where
   pub bytes : List ℕ
   pub tells : Tells file bytes
-  pub none : (instructions : List BitInstruction) → IsSource bytes instructions → ⊥
+  pub cause : IsNotPlayed due (meaning_of bytes)
 
 -- a file tells a plant script
 pub record TellsScript (file : File) : Type 0 where
@@ -212,13 +210,8 @@ pub record TellsNoScript (file : File) : Type 0 where
 -- nothing outside fails, the command is done to its end, but for want of memory.
 pub record GivesWhatIsDue (source script : File) (sink : Written) (fault : Option Fault) : Type 0 where
   pub long_source : TellsTooMuch source → IsDue 0 (TooLong 0) fault
-  pub no_source : TellsNoSource source → IsDue 0 (SourceFault source_not_built) fault
+  pub no_source : (due : LoadFault) → TellsNoSource source due → IsDue 0 (SourceFault due) fault
   pub long_script : TellsSource source → TellsTooMuch script → IsDue 1 (TooLong 1) fault
   pub no_script : TellsSource source → TellsNoScript script → IsDue 1 (ScriptFault script_not_built) fault
   pub complete : TellsSource source → TellsScript script → (HasFailed source → ⊥) → (HasFailed script → ⊥)
       → (Rose sink.before sink.now → ⊥) → IsDone fault
-
--- what holds of the source and the script of a call that plays
-abbrev pub OfPlay : Option Order → (List ℕ → List ℕ → Type 0) → Type 0
-OfPlay None P = Unit {0}
-OfPlay (Some order) P = P (source_of order) (script_of order)

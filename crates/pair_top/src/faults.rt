@@ -1,18 +1,12 @@
 //! What a call answers.
-ghost use Rattle.std.specs.Prelude.{◌≡◌, [], Some};
+ghost use Rattle.std.specs.Prelude.{◌≡◌, [], Some, None};
 ghost use Rattle.pair_top.specs.Statuses.{status_of};
 
 use event_record::Record;
 use pair_core::{Ended, Shown};
 use plant_script::ScriptFault;
 use std::alloc::Global;
-
-/// A fault of a source: its kind, and its line, counted from 1, or 0 for the whole.
-#[derive(Clone, Copy, Debug, PartialEq, Eq)]
-pub struct LoadFault {
-    pub kind: u8,
-    pub line: u32,
-}
+use stl_lex::LoadFault;
 
 /// Why a command was not done to its end. `which` is 0 for the source, 1 for the script.
 #[derive(Clone, Copy, Debug, PartialEq, Eq)]
@@ -64,6 +58,23 @@ pub struct Outcome {
 }
 
 impl Outcome {
+    /// Nothing was played, and nothing failed.
+    pub(crate) fn quiet(alloc: Global) -> Outcome
+        ensures status { result.status ≡ status_of None }
+        ensures fault { result.fault ≡ None }
+        ensures entries { result.entries.entries ≡ [] }
+        ensures shown { result.shown.list ≡ [] }
+        ensures ended { result.ended ≡ Ended.NotPlayed }
+    {
+        Outcome {
+            status: 0,
+            fault: None,
+            entries: Record::empty(alloc),
+            shown: Shown::empty(alloc),
+            ended: Ended::NotPlayed,
+        }
+    }
+
     /// Nothing was played.
     pub(crate) fn refused(alloc: Global, fault: Fault) -> Outcome
         ensures status { result.status ≡ status_of (Some fault) }

@@ -7,19 +7,15 @@ mod fields;
 mod gates;
 mod pattern;
 mod play;
-mod read_error;
 mod reading;
 mod serve;
-mod source_reader;
 mod words;
 
-pub use faults::{Fault, LoadFault, Outcome};
+pub use faults::{Fault, Outcome};
 pub use gates::{Gate, NoGate};
-pub use read_error::ReadError;
 pub use reading::LIMIT;
 pub use serve::{s7h_top, serve_alone};
+pub use stl_lex::LoadFault;
 
-#[cfg(test)]
-mod reader_tests;
 #[cfg(test)]
 mod tests;

@@ -2,19 +2,20 @@
 ghost use Rattle.std.specs.Prelude.{◌≡◌, ◌≤◌, length, ℕ, List, IfOk, IfErr, OnOk};
 ghost use Rattle.s7_base.specs.Blocks.{IsPlayable};
 ghost use Rattle.plant_script.specs.Plan.{IsPlan};
-ghost use Rattle.pair_top.specs.Reading.{file_of, WasRead, IsAccepted, IsPlanned, IsReadRefusal, IsSourceRefusal, IsScriptRefusal, CountsOnly};
+ghost use Rattle.pair_top.specs.Reading.{file_of, WasRead, IsLoaded, IsAccepted, IsPlanned, IsReadRefusal, IsLoadRefusal, IsSourceRefusal, IsScriptRefusal, CountsOnly};
 
-use crate::source_reader::read_source;
-use crate::{Fault, LoadFault, ReadError};
+use crate::Fault;
+use block_loader::{LoadError, load};
 use pair_io::{Files, FilesError};
 use plant_script::{Script, ScriptError, read_script};
 use s7_base::Blocks;
 use std::alloc::Global;
+use stl_lex::LoadFault;
 
 /// The most bytes of a source or a script.
 pub const LIMIT: u64 = 1_048_576;
 
-/// The kind of a fault of a source of a form that is not played.
+/// The kind of the fault of a source without faults whose program is not played.
 const NOT_BUILT: u8 = 99;
 
 /// The bytes of a file, which has this number.
@@ -40,6 +41,22 @@ fn read_file<F: Files>(
 }
 
 /// The blocks of the source of this name.
+pub fn load_source<F: Files>(alloc: Global, files: &mut F, name: &[u8]) -> Result<Blocks, Fault>
+    ensures loaded { IfOk result (IsLoaded (F.content files.old name.now)) }
+    ensures refused { IfErr result (IsLoadRefusal (file_of (F.content files.old) (F.faults files.old) (F.faults files.new) name.now)) }
+    ensures stays { (other : List ℕ) → F.content files.new other ≡ F.content files.old other }
+    ensures counts { OnOk result ((other : List ℕ) → F.faults files.new other ≡ F.faults files.old other) }
+    ensures steady { IfErr result (λ fault. (other : List ℕ) → CountsOnly fault (file_of (F.content files.old) (F.faults files.old) (F.faults files.new) other)) }
+{
+    let bytes = read_file(alloc, files, name, 0)?;
+    match load(alloc, &bytes) {
+        Ok(blocks) => Ok(blocks),
+        Err(LoadError::Fault(fault)) => Err(Fault::SourceFault(fault)),
+        Err(LoadError::NoMemory) => Err(Fault::NoMemory),
+    }
+}
+
+/// The blocks of the source of this name, which are played.
 pub fn read_blocks<F: Files>(alloc: Global, files: &mut F, name: &[u8]) -> Result<Blocks, Fault>
     ensures read { IfOk result (IsAccepted (F.content files.old name.now)) }
     ensures playable { IfOk result IsPlayable }
@@ -48,15 +65,14 @@ pub fn read_blocks<F: Files>(alloc: Global, files: &mut F, name: &[u8]) -> Resul
     ensures counts { OnOk result ((other : List ℕ) → F.faults files.new other ≡ F.faults files.old other) }
     ensures steady { IfErr result (λ fault. (other : List ℕ) → CountsOnly fault (file_of (F.content files.old) (F.faults files.old) (F.faults files.new) other)) }
 {
-    let bytes = read_file(alloc, files, name, 0)?;
-    match read_source(alloc, &bytes) {
-        Ok(blocks) => Ok(blocks),
-        Err(ReadError::Fault) => Err(Fault::SourceFault(LoadFault {
+    let blocks = load_source(alloc, files, name)?;
+    if !blocks.is_playable() {
+        return Err(Fault::SourceFault(LoadFault {
             kind: NOT_BUILT,
             line: 0,
-        })),
-        Err(ReadError::NoMemory) => Err(Fault::NoMemory),
+        }));
     }
+    Ok(blocks)
 }
 
 /// The plant script of this name.

@@ -8,16 +8,18 @@ ghost use Rattle.pair_core.specs.World.{first_world, play};
 ghost use Rattle.pair_core.specs.Progress.{IsAlone};
 ghost use Rattle.pair_core.specs.CpuTail.{tail_of};
 ghost use Rattle.pair_core.specs.Text.{HasTail, text};
+ghost use Rattle.trace_printer.specs.LoadText.{load_text};
 ghost use Rattle.pair_top.specs.Reading.{file_of, IsAccepted, IsPlanned};
 ghost use Rattle.pair_top.specs.Orders.{is_alone, visits_for, mode_for};
 ghost use Rattle.pair_top.specs.Playing.{AreAt, of_side};
-ghost use Rattle.pair_top.specs.Serving.{IsRefusal, AreSteady, IsFinished, ComesToTail, IsWriting, IsOutcome, PlayServed, Served, setup_of, account_of, written_in, GivesWhatIsDue, OfPlay};
+ghost use Rattle.pair_top.specs.Serving.{IsRefusal, AreSteady, IsFinished, ComesToTail, IsWriting, IsOutcome, PlayServed, IsUnplayed, setup_of, account_of, written_in, GivesWhatIsDue};
+ghost use Rattle.pair_top.specs.Loading.{LoadServed, IsSteadyUnless, LoadsWhatIsDue, Served, DueServed};
 ghost use Rattle.pair_top.specs.Statuses.{status_of};
 ghost use Rattle.pair_top.specs.Words.{command_of, words_of};
 ghost use Rattle.pair_top.specs.WordsView.{order_of, manner_in, IsReadable, ArePatterns};
 
 use crate::play::{Played, Visits, finish, play_visits};
-use crate::reading::{read_blocks, read_plant};
+use crate::reading::{load_source, read_blocks, read_plant};
 use crate::words::{Command, command_from};
 use crate::{Fault, Gate, Outcome};
 use pair_core::{Mode, Pair, begins};
@@ -28,7 +30,7 @@ use std::alloc::Global;
 use std::sync::Wait;
 use std::thread::Threads;
 use subsystem::Subsystem;
-use trace_printer::print;
+use trace_printer::{print, print_load};
 
 /// Both files of a play.
 fn read_both<F: Files>(
@@ -195,6 +197,44 @@ fn serve_play<F: Files, K: Sink>(
     play_and_write(alloc, &blocks, plant, visits, sink, a, b)
 }
 
+/// Writes the text of a program's blocks.
+fn write_blocks<K: Sink>(alloc: Global, sink: &mut K, blocks: &Blocks) -> Outcome
+    ensures status { result.status ≡ status_of result.fault }
+    ensures unplayed { IsUnplayed (account_of result.entries.entries result.shown.list result.ended) }
+    ensures written { IsWriting (load_text blocks.now)
+        (written_in (K.written sink.old) (K.written sink.new) (K.faults sink.old) (K.faults sink.new)) result.fault }
+{
+    match print_load(sink, blocks) {
+        Ok(()) => Outcome::quiet(alloc),
+        Err(_) => Outcome::refused(alloc, Fault::SinkFault),
+    }
+}
+
+/// The command that tells the blocks of the source of this name.
+fn serve_load<F: Files, K: Sink>(
+    alloc: Global,
+    source: &[u8],
+    files: &mut F,
+    sink: &mut K,
+) -> Outcome
+    ensures status { result.status ≡ status_of result.fault }
+    ensures served { LoadServed
+        (file_of (F.content files.old) (F.faults files.old) (F.faults files.new) source.now)
+        (written_in (K.written sink.old) (K.written sink.new) (K.faults sink.old) (K.faults sink.new))
+        (account_of result.entries.entries result.shown.list result.ended) result.fault }
+    ensures steady { IsSteadyUnless result.fault
+        (file_of (F.content files.old) (F.faults files.old) (F.faults files.new) source.now) }
+    ensures words { result.fault ≡ Some Fault.Usage → ⊥ }
+    ensures due { LoadsWhatIsDue
+        (file_of (F.content files.old) (F.faults files.old) (F.faults files.new) source.now)
+        (written_in (K.written sink.old) (K.written sink.new) (K.faults sink.old) (K.faults sink.new)) result.fault }
+{
+    match load_source(alloc, files, source) {
+        Ok(blocks) => write_blocks(alloc, sink, &blocks),
+        Err(fault) => Outcome::refused(alloc, fault),
+    }
+}
+
 /// Does what a command says.
 fn serve_command<F: Files, K: Sink>(
     alloc: Global,
@@ -213,12 +253,12 @@ fn serve_command<F: Files, K: Sink>(
         (written_in (K.written sink.old) (K.written sink.new) (K.faults sink.old) (K.faults sink.new))
         (account_of result.entries.entries result.shown.list result.ended) a.new b.new result.fault }
     ensures words { result.fault ≡ Some Fault.Usage → ⊥ }
-    ensures due { OfPlay (Some (order_of command.entry)) (λ source script. GivesWhatIsDue
-        (file_of (F.content files.old) (F.faults files.old) (F.faults files.new) source)
-        (file_of (F.content files.old) (F.faults files.old) (F.faults files.new) script)
-        (written_in (K.written sink.old) (K.written sink.new) (K.faults sink.old) (K.faults sink.new)) result.fault) }
+    ensures due { DueServed (Some (order_of command.entry))
+        (file_of (F.content files.old) (F.faults files.old) (F.faults files.new))
+        (written_in (K.written sink.old) (K.written sink.new) (K.faults sink.old) (K.faults sink.new)) result.fault }
 {
     match command {
+        Command::Load { source } => serve_load(alloc, source, files, sink),
         Command::Solo { source, script } => {
             serve_play(alloc, source, script, Visits::Alone, files, sink, a, b)
         }
@@ -239,8 +279,8 @@ fn serve_command<F: Files, K: Sink>(
     }
 }
 
-/// Does what the words say, on the caller's thread: `solo SOURCE SCRIPT` plays side A alone, and
-/// `turns SOURCE SCRIPT PATTERN` plays both sides by the letters of the pattern.
+/// Does what the words say, on the caller's thread: `load SOURCE` tells the blocks of a source, `solo SOURCE SCRIPT`
+/// plays side A alone, and `turns SOURCE SCRIPT PATTERN` plays both sides by the letters of the pattern.
 ///
 /// `a` and `b` are as `Subsystem::new` made them. Waits for nobody, and always returns.
 pub fn serve_alone<F: Files, K: Sink>(
@@ -255,7 +295,7 @@ pub fn serve_alone<F: Files, K: Sink>(
     requires b { IsNew b.old }
     ensures status { result.status ≡ status_of result.fault }
 
-    // What the command answers and leaves: the play and its text, or the cause of the refusal.
+    // What the command answers and leaves: the play and its text, the text of the blocks, or the cause of the refusal.
     ensures served { Served (command_of (words_of words.now))
         (file_of (F.content files.old) (F.faults files.old) (F.faults files.new))
         (written_in (K.written sink.old) (K.written sink.new) (K.faults sink.old) (K.faults sink.new))
@@ -265,10 +305,9 @@ pub fn serve_alone<F: Files, K: Sink>(
     ensures usage { (result.fault ≡ Some Fault.Usage) ↔ IsNone (command_of (words_of words.now)) }
 
     // Each refusal that is due comes; where none is, the command is done to its end.
-    ensures due { OfPlay (command_of (words_of words.now)) (λ source script. GivesWhatIsDue
-        (file_of (F.content files.old) (F.faults files.old) (F.faults files.new) source)
-        (file_of (F.content files.old) (F.faults files.old) (F.faults files.new) script)
-        (written_in (K.written sink.old) (K.written sink.new) (K.faults sink.old) (K.faults sink.new)) result.fault) }
+    ensures due { DueServed (command_of (words_of words.now))
+        (file_of (F.content files.old) (F.faults files.old) (F.faults files.new))
+        (written_in (K.written sink.old) (K.written sink.new) (K.faults sink.old) (K.faults sink.new)) result.fault }
 {
     match command_from(words) {
         None => Outcome::refused(alloc, Fault::Usage),
@@ -293,7 +332,7 @@ pub fn s7h_top<R: Threads + Wait + Sync, F: Files, K: Sink, G: Gate + Sync>(
     requires b { IsNew b.old }
     ensures status { result.status ≡ status_of result.fault }
 
-    // What the command answers and leaves: the play and its text, or the cause of the refusal.
+    // What the command answers and leaves: the play and its text, the text of the blocks, or the cause of the refusal.
     ensures served { Served (command_of (words_of words.now))
         (file_of (F.content files.old) (F.faults files.old) (F.faults files.new))
         (written_in (K.written sink.old) (K.written sink.new) (K.faults sink.old) (K.faults sink.new))
@@ -303,10 +342,9 @@ pub fn s7h_top<R: Threads + Wait + Sync, F: Files, K: Sink, G: Gate + Sync>(
     ensures usage { (result.fault ≡ Some Fault.Usage) ↔ IsNone (command_of (words_of words.now)) }
 
     // Each refusal that is due comes; where none is, the command is done to its end.
-    ensures due { OfPlay (command_of (words_of words.now)) (λ source script. GivesWhatIsDue
-        (file_of (F.content files.old) (F.faults files.old) (F.faults files.new) source)
-        (file_of (F.content files.old) (F.faults files.old) (F.faults files.new) script)
-        (written_in (K.written sink.old) (K.written sink.new) (K.faults sink.old) (K.faults sink.new)) result.fault) }
+    ensures due { DueServed (command_of (words_of words.now))
+        (file_of (F.content files.old) (F.faults files.old) (F.faults files.new))
+        (written_in (K.written sink.old) (K.written sink.new) (K.faults sink.old) (K.faults sink.new)) result.fault }
 {
     serve_alone(alloc, words, files, sink, a, b)
 }

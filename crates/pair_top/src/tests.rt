@@ -329,16 +329,82 @@ fn patterns_are_read(rt: HostRuntime) -> Result<(), Fail> {
     Ok(())
 }
 
+/// Sources, scripts and texts of plays in which side A is lost in OB1: side B asks again for what A was denied.
+const FAILOVERS: [(&[u8], &[u8], &[u8]); 2] = [
+    // The timer is started at 2, and runs out at 12. Both sides know it.
+    (
+        b"ORGANIZATION_BLOCK OB 1\nBEGIN\nAN M 0.0; L S5T#10MS; SD T 1; A T 1; = Q 0.0;\nEND_ORGANIZATION_BLOCK\n",
+        b"AT 7 FAIL A\nEND 18\n",
+        b"TRACE 1 PAIR\n\
+0 1 OUT - = DONE\nSHOW A\n1 1 IN = IMG -\n2 1 NOW = NOW 2\n3 1 NOW = NOW 3\n4 1 CYCLE = GO\n\
+5 1 OUT - = DONE\nSHOW A\n6 1 IN = IMG -\n7 1 NOW = LOST A FAILED\n8 1 NOW = NOW 8\n9 1 NOW = NOW 9\n10 1 CYCLE = GO\n\
+11 1 OUT - = DONE\nSHOW B\n12 1 IN = IMG -\n13 1 NOW = NOW 13\n14 1 NOW = NOW 14\n15 1 CYCLE = GO\n\
+16 1 OUT 0:01 = DONE\nSHOW B\n17 1 IN = IMG -\n\
+DIAG 2\n0 START\n7 LOST A FAILED\nI -\nQ 0:01\nM -\nEND 18\n",
+    ),
+    // A loop without end asks after each 256 statements.
+    (
+        b"ORGANIZATION_BLOCK OB 1\nBEGIN\nM001: NOP 0;\nJU M001;\nEND_ORGANIZATION_BLOCK\n",
+        b"AT 3 FAIL A\nEND 6\n",
+        b"TRACE 1 PAIR\n0 1 OUT - = DONE\nSHOW A\n1 1 IN = IMG -\n2 1 TICK = DONE\n\
+3 1 TICK = LOST A FAILED\n4 1 TICK = DONE\n5 1 TICK = DONE\n\
+DIAG 2\n0 START\n3 LOST A FAILED\nI -\nQ -\nM -\nEND 6\n",
+    ),
+];
+
+#[test]
+fn programs_go_on_at_a_failover(rt: HostRuntime) -> Result<(), Fail> {
+    let alloc = rt.alloc();
+    for (source, script, text) in FAILOVERS {
+        let mut files = files_of(alloc, source, script, None)?;
+        let mut sink = MemSink::new(alloc, 2000, Vec::new(alloc))?;
+        let words: &[&[u8]] = &[b"turns", b"s", b"p", b"100*ab"];
+        let left = served(alloc, words, &mut files, &mut sink)?;
+        assert_eq!(rt; left.outcome.fault, None);
+        assert_eq!(rt; sink.written(), text);
+    }
+    Ok(())
+}
+
+/// A data block, a function and OB1, in an order that is not that of the text.
+const BLOCKS: &[u8] =
+    b"DATA_BLOCK DB 7\nSTRUCT\na : INT;\nb : BOOL;\nEND_STRUCT\nBEGIN\nEND_DATA_BLOCK\n\
+FUNCTION FC 3 : VOID\nBEGIN\nEND_FUNCTION\n\
+ORGANIZATION_BLOCK OB 1\nBEGIN\nA I 0.0;\n= Q 0.0;\nEND_ORGANIZATION_BLOCK\n";
+
+#[test]
+fn blocks_are_told(rt: HostRuntime) -> Result<(), Fail> {
+    let alloc = rt.alloc();
+    // The room of the sink, the status, and what is written.
+    let cases: [(u32, u8, &[u8]); 2] = [
+        (1000, 0, b"OB 1 2\nFC 3 0\nDB 7 4\nOK 3\n"),
+        (10, 7, b"OB 1 2\nFC "),
+    ];
+    for (room, status, text) in cases {
+        let mut files = files_of(alloc, BLOCKS, b"", None)?;
+        let mut sink = MemSink::new(alloc, room, Vec::new(alloc))?;
+        let left = served(alloc, &[b"load", b"s"], &mut files, &mut sink)?;
+        assert_eq!(rt; left.outcome.status, status);
+        assert!(rt; left.outcome.entries.is_empty());
+        assert_eq!(rt; left.outcome.ended, Ended::NotPlayed);
+        assert_eq!(rt; sink.written(), text);
+    }
+    Ok(())
+}
+
 #[test]
 fn each_refusal_has_its_cause(rt: HostRuntime) -> Result<(), Fail> {
     let alloc = rt.alloc();
     let long = vec![in alloc; b' '; 1_048_577]?;
     let whole = vec![in alloc; b' '; 1_048_576]?;
     let solo: &[&[u8]] = &[b"solo", b"s", b"p"];
-    let source_fault = Fault::SourceFault(LoadFault { kind: 99, line: 0 });
+    let load: &[&[u8]] = &[b"load", b"s"];
+    let unplayed = Fault::SourceFault(LoadFault { kind: 99, line: 0 });
+    let no_main = Fault::SourceFault(LoadFault { kind: 18, line: 0 });
+    let misplaced = Fault::SourceFault(LoadFault { kind: 11, line: 2 });
     let script_fault = Fault::ScriptFault(ScriptFault { kind: 99, line: 0 });
     let missing = Fault::FileFault { which: 0 };
-    let cases: [(&[&[u8]], &[u8], &[u8], Option<u64>, Fault, u8); 15] = [
+    let cases: [(&[&[u8]], &[u8], &[u8], Option<u64>, Fault, u8); 21] = [
         (&[], SOURCE, SCRIPT, None, Fault::Usage, 2),
         (&[b"solo", b"s"], SOURCE, SCRIPT, None, Fault::Usage, 2),
         (
@@ -385,8 +451,14 @@ fn each_refusal_has_its_cause(rt: HostRuntime) -> Result<(), Fail> {
         ),
         (solo, &long, SCRIPT, None, Fault::TooLong { which: 0 }, 4),
         (solo, SOURCE, &long, None, Fault::TooLong { which: 1 }, 4),
-        (solo, &whole, &long, None, source_fault, 5),
-        (solo, b"BEGIN\n", b"", None, source_fault, 5),
+        (solo, &whole, &long, None, no_main, 5),
+        (solo, b"\nBEGIN\n", b"", None, misplaced, 5),
+        (solo, BLOCKS, b"", None, unplayed, 5),
+        (&[b"load"], SOURCE, SCRIPT, None, Fault::Usage, 2),
+        (&[b"load", b"x"], SOURCE, SCRIPT, None, missing, 3),
+        (load, &long, SCRIPT, None, Fault::TooLong { which: 0 }, 4),
+        (load, b"", SCRIPT, None, no_main, 5),
+        (load, b"\nBEGIN\n", b"", None, misplaced, 5),
         (solo, SOURCE, &whole, None, script_fault, 6),
         (solo, SOURCE, b"END 12", None, script_fault, 6),
     ];

@@ -9,6 +9,10 @@ use crate::pattern::is_pattern;
 /// What the words ask for, with the names of the files.
 #[derive(Clone, Copy)]
 pub enum Command<'a> {
+    /// To tell the blocks of a source.
+    Load {
+        source: &'a [u8],
+    },
     /// To play side A alone.
     Solo {
         source: &'a [u8],
@@ -28,6 +32,9 @@ pub fn command_from(words: &[Vec<u8>]) -> Option<Command<'_>>
     ensures readable { IfSome result IsReadable }
 {
     match words {
+        [word, source] if word.as_slice() == b"load".as_slice() => Some(Command::Load {
+            source: source.as_slice(),
+        }),
         [word, source, script] if word.as_slice() == b"solo".as_slice() => Some(Command::Solo {
             source: source.as_slice(),
             script: script.as_slice(),

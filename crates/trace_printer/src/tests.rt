@@ -1,4 +1,5 @@
 use crate::line::Line;
+use crate::load_text::print_load;
 use crate::printer::{print, print_all};
 use crate::tail::TailView;
 use crate::writing::SinkFault;
@@ -6,8 +7,8 @@ use event_record::Record;
 use pair_core::{Ended, Mode, Shown};
 use pair_io::MemSink;
 use s7_base::{
-    Answer, Area, Ask, Blocks, CodeBlock, CodeKind, DiagCode, Entry, Job, JobArea, Loss, Request,
-    Side, StopCode,
+    Answer, Area, Ask, Blocks, CodeBlock, CodeKind, DataBlock, DiagCode, Entry, Job, JobArea, Loss,
+    Request, Side, StopCode,
 };
 use std::test::Fail;
 use subsystem::Subsystem;
@@ -287,6 +288,24 @@ fn runs_end_as_they_ended(rt: HostRuntime) -> Result<(), Fail> {
 
 const WHOLE: &[u8] =
     b"TRACE 1 SOLO\n0 1 OUT - = DONE\nSHOW A\nDIAG 1\n0 START\nI -\nQ -\nM -\nEND 1\n";
+
+#[test]
+fn blocks_are_told_by_kind(rt: HostRuntime) -> Result<(), Fail> {
+    let alloc = rt.alloc();
+    let main = CodeBlock::new(CodeKind::Ob, 1, 0, Vec::new(alloc));
+    let other = CodeBlock::new(CodeKind::Fc, 255, 0, Vec::new(alloc));
+    let data = DataBlock::new(9, vec![in alloc; 0; 12]?);
+    let Some(blocks) = Blocks::of(vec![in alloc; main, other]?, vec![in alloc; data]?) else {
+        return Err("not well formed".into());
+    };
+    let mut sink = MemSink::new(alloc, 100, Vec::new(alloc))?;
+    assert!(rt; print_load(&mut sink, &blocks).is_ok());
+    assert_eq!(rt;
+        sink.written(),
+        b"OB 1 0\nFC 255 0\nDB 9 12\nOK 3\n".as_slice()
+    );
+    Ok(())
+}
 
 #[test]
 fn a_side_shows_its_tail(rt: HostRuntime) -> Result<(), Fail> {
