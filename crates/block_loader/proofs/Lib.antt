@@ -5,3 +5,5 @@ pub mod Names
 pub mod Least
 pub mod Sources
 pub mod Program
+pub mod Values
+pub mod Landing
