@@ -7,3 +7,4 @@ pub mod Sources
 pub mod Program
 pub mod Values
 pub mod Landing
+pub mod Numbers
