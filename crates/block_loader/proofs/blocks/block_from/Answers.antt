@@ -1,4 +1,3 @@
-use Rattle.std.proofs.Common.{length}
 use Rattle.std.proofs.lemmas.Result.{IfOk-weaker}
 use Rattle.block_loader.specs.Sound.{IsSoundFront, IsSoundBlock}
 use Rattle.block_loader.proofs.Numbers.{front_sound}

@@ -1,9 +1,8 @@
-use Rattle.std.proofs.Common.{◌≡◌, ◌≤◌, ◌<◌, ◌-◌, ◌+◌, ◌++◌, ◌∷◌, [], ℕ, List, length, arith, rules}
+use Rattle.std.proofs.Common.{◌≤◌, ◌<◌, ◌+◌, length, rules}
 use Rattle.std.proofs.lemmas.Result.{err_from_is_err_and}
 use Rattle.std.proofs.lemmas.List.Elements.{All-push}
 use Rattle.stl_decl.specs.Steps.{end_fault}
 use Rattle.stl_decl.specs.Faults.{told}
-use Rattle.block_loader.specs.Told.{repeated}
 use Rattle.block_loader.specs.Blocks.{blocks_turn, blocks_of, block_from, items_of}
 use Rattle.block_loader.specs.Sound.{IsSoundBlock}
 use Rattle.block_loader.proofs.Repeat.{ends, goes_on, fails, runs_out, fails_with}
