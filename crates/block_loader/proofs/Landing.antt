@@ -1,6 +1,6 @@
 -- The jumps of a body without a fault land.
 use Rattle.std.proofs.Common.{◌≡◌, ◌∙◌, ◌≤◌, ◌+◌, ◌-◌, ℕ, zero, suc, List, [], ◌∷◌, ◌++◌, length, map, take, drop, refl, sym, ap, subst, Bool, true, false, cond, not, ◌&&◌, ◌||◌, arith, append_assoc, length-append}
-use Rattle.std.specs.Prelude.{All, IsTrue, Option, Some, None, nat_lt, nat_le, slice_get, slice_set}
+use Rattle.std.specs.Prelude.{All, IsTrue, Option, Some, None, nat_lt, nat_le, slice_get}
 use Rattle.std.specs.List.{fold, find, flat_map, list_all}
 use Rattle.std.specs.Option.{option_map}
 use Rattle.std.specs.Str.{bytes_eq}
@@ -182,6 +182,7 @@ module _ (b locals : ℕ) (whole : List BodyStatement) (labels : List Label) (wi
           let below : f.goal ≤ length whole = named_within (length whole) labels j.name f.goal within f.is in
           subst (λ all. IsRest locals front all (s ∷ ss)) same (one_before locals front _ t s ss refl (still_statement locals f.goal s.statement is of_language) next (free_lands (length front) f.goal s ss next.rest next.ops f.list f.near (omega arith)))
 
+-- where no jump of a body has a fault, all of them land
 pub landing : (b : ℕ) (locals : ℕ) (body : Contents) → IsSound locals body → jump_faults b body.statements body.labels body.jumps ≡ [] → IsLanded locals body
 landing b locals body sound none =
     let all : IsRest locals [] (landed body) body.statements = rest_lands b locals body.statements body.labels sound.labels body.statements body.jumps [] [] refl refl sound.language sound.jumps none in

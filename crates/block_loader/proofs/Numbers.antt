@@ -8,8 +8,9 @@ use Rattle.s7_base.specs.Limits.{has_number, is_ob}
 use Rattle.stl_lex.specs.declared.token.Token.{Token}
 use Rattle.stl_decl.specs.declared.fault.Fault.{Fault}
 use Rattle.stl_decl.specs.declared.fault.FaultKind.TheVariants.{BadOperand, OutOfScope}
+use Rattle.stl_decl.specs.Layout.{Section}
 use Rattle.stl_decl.specs.Sections.{temporaries_at, structure_at, assignments_at}
-use Rattle.stl_decl.specs.Steps.{◌>>=◌, fault_at, word_at, number_at}
+use Rattle.stl_decl.specs.Steps.{fault_at, word_at, number_at}
 use Rattle.stl_reader.proofs.Language.{bind_ok}
 use Rattle.block_loader.specs.declared.heads.BlockKind.{BlockKind}
 use Rattle.block_loader.specs.declared.heads.BlockKind.TheVariants as kinds
@@ -64,6 +65,9 @@ module _ (turns : ℕ) (text : List ℕ) (heading : Heading) (tokens : List Toke
       let same : (record { kind = kind; number = heading.number; line = heading.line; temps = temps.0.0 }, begin.0.1) ≡ x = let f = begin.2 in cc in
       subst (λ y. IsTrue (has_number y.0.kind y.0.number)) same h
 
+  data_made : (layout : Section) (rest : List Token) (x : SourceData × List Token) → (1 ≤ heading.number) × (heading.number ≤ 255) → (record { number = heading.number; line = heading.line; layout = layout }, rest) ≡ x → IsSoundData x.0
+  data_made layout rest x h e = subst (λ y. IsSoundData y.0) e (record { number = h.0; last_number = h.1 })
+
   data_sound : (x : SourceData × List Token) → (1 ≤ heading.number) × (heading.number ≤ 255) → data_at turns text heading tokens ≡ Ok x → IsSoundData x.0
   unfolding data_at
   data_sound x h e =
@@ -71,8 +75,7 @@ module _ (turns : ℕ) (text : List ℕ) (heading : Heading) (tokens : List Toke
       let section = bind_ok (structure_at turns text rest.0) _ x rest.2 in
       let begin = bind_ok (word_at text (codes "BEGIN") section.0.1) _ x section.2 in
       let all = bind_ok (assignments_at turns text section.0.0 begin.0.1) _ x begin.2 in
-      let same : (record { number = heading.number; line = heading.line; layout = all.0.0 }, all.0.1) ≡ x = let f = all.2 in cc in
-      subst (λ y. IsSoundData y.0) same (record { number = h.0; last_number = h.1 })
+      data_made all.0.0 all.0.1 x h (let f = all.2 in cc)
 
   front_by_sound : (kind : BlockKind) (x : Front × List Token) → IsNumbered kind heading.number → front_by kind turns text heading tokens ≡ Ok x → IsSoundFront x.0
   front_by_sound (kinds.Code kind) x h e =

@@ -7,7 +7,7 @@ use Rattle.s7_base.specs.declared.operands.OperandKind.{OperandKind}
 use Rattle.s7_base.specs.declared.operands.OperandKind.TheVariants as kinds
 use Rattle.s7_base.specs.declared.statement.Statement.{Statement}
 use Rattle.s7_base.specs.declared.table.InstructionRow.{InstructionRow}
-use Rattle.s7_base.specs.Operands.{allows, is_in, is_bit, is_value, is_peripheral, is_memory, is_timer_or_counter, is_up_to, is_exactly, is_constant, is_about_data, is_within, unit_bytes}
+use Rattle.s7_base.specs.Operands.{allows, is_in, is_memory, is_timer_or_counter, is_up_to, is_exactly, is_constant, is_about_data, is_within, unit_bytes}
 use Rattle.s7_base.specs.Rows.{row_of}
 use Rattle.s7_base.specs.Statements.{is_of_row, is_statement}
 use Rattle.block_loader.specs.Load.{with_target}
