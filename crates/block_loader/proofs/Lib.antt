@@ -5,3 +5,6 @@ pub mod Names
 pub mod Least
 pub mod Sources
 pub mod Program
+pub mod Values
+pub mod Landing
+pub mod Numbers

@@ -1,7 +1,8 @@
 -- One more block of the whole source.
-use Rattle.std.proofs.Common.{◌≡◌, ◌≤◌, ◌<◌, ◌==◌, ℕ, zero, suc, List, [], ◌∷◌, ◌++◌, ◌-◌, ◌+◌, refl, subst, ap, arith, sym, ◌∙◌, Bool, length, take, drop, get_or, add-one, map}
+use Rattle.std.proofs.Common.{◌≡◌, ◌≤◌, ◌<◌, ◌==◌, ℕ, zero, suc, List, [], ◌∷◌, ◌++◌, ◌-◌, ◌+◌, refl, subst, ap, arith, sym, ◌∙◌, Bool, true, false, cond, ◌||◌, length, take, drop, get_or, add-one, map}
 use Rattle.std.proofs.Math.Seq.{drop-cons}
 use Rattle.std.proofs.lemmas.List.{take_more, map_push, take_all}
+use Rattle.std.proofs.lemmas.List.Folds.{list_any-append}
 use Rattle.std.proofs.Math.ListN.{drop_of_length-le}
 use Rattle.std.specs.Prelude.{Option, Some, None}
 use Rattle.std.specs.List.{list_any}
@@ -19,6 +20,18 @@ heads_found taken b t block o o1 o2 o3 large e f l g =
     g ∙ ap (λ (w : Bool). least_of o2 (at_head w b TooLarge block)) l
     ∙ ap (λ (p : Option SourceFault). least_of p (at_head (is_too_large t block) b TooLarge block)) (f ∙ ap (λ (p : Option SourceFault). least_of p (at_head (b == 257) b TooManyBlocks block)) e ∙ sym (least_append o (at_head taken b DoubleBlock block) (at_head (b == 257) b TooManyBlocks block)))
     ∙ sym (least_append o (at_head taken b DoubleBlock block ++ at_head (b == 257) b TooManyBlocks block) (at_head (is_too_large t block) b TooLarge block))
+
+either : (t u : Bool) → cond t true u ≡ (u || (t || false))
+either true true = refl
+either true false = refl
+either false true = refl
+either false false = refl
+
+-- a set of the names with one name more
+pub more_names : (has next : List ℕ → Bool) (front : List (List ℕ)) (name : List ℕ) → ((k : List ℕ) → has k ≡ list_any (λ n. bytes_eq n k) front) → ((k : List ℕ) → next k ≡ cond (bytes_eq name k) true (has k)) → (k : List ℕ) → next k ≡ list_any (λ n. bytes_eq n k) (front ++ name ∷ [])
+more_names has next front name here more k =
+    more k ∙ ap (λ t. cond (bytes_eq name k) true t) (here k) ∙ either (bytes_eq name k) (list_any (λ n. bytes_eq n k) front)
+    ∙ sym (list_any-append (λ n. bytes_eq n k) front (name ∷ []))
 
 module _ (blocks : List SourceBlock) (i : ℕ) (block : SourceBlock) (front : List (List ℕ)) (t : Totals) where
   abbrev is_taken : Bool

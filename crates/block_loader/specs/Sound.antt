@@ -2,6 +2,8 @@
 use Rattle.std.specs.Prelude.{◌≡◌, ℕ, ◌%◌, ◌≤◌, List, All, IsTrue}
 use Rattle.s7_base.specs.Limits.{has_number, locals_of}
 use Rattle.stl_reader.specs.Sound.{IsSound}
+use Rattle.block_loader.specs.declared.blocks.Front.{Front}
+use Rattle.block_loader.specs.declared.blocks.Front.TheVariants as fronts
 use Rattle.block_loader.specs.declared.blocks.SourceCode.{SourceCode}
 use Rattle.block_loader.specs.declared.blocks.SourceData.{SourceData}
 use Rattle.block_loader.specs.declared.blocks.SourceBlock.{SourceBlock}
@@ -21,3 +23,8 @@ pub record IsSoundData (block : SourceData) : Type 0 where
 abbrev pub IsSoundBlock : SourceBlock → Type 0
 IsSoundBlock (Code code) = IsSoundCode code
 IsSoundBlock (Data block) = IsSoundData block
+
+-- what is read before the statements of a block has such a number
+abbrev pub IsSoundFront : Front → Type 0
+IsSoundFront (fronts.Code front) = IsTrue (has_number front.kind front.number)
+IsSoundFront (fronts.Data block) = IsSoundData block

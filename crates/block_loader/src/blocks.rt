@@ -1,9 +1,10 @@
 //! The blocks of a source, as they are read.
-ghost use Rattle.std.specs.Prelude.{◌≡◌, ◌≤◌, length, IfOk};
+ghost use Rattle.std.specs.Prelude.{◌≡◌, ◌≤◌, length, All, IfOk};
 ghost use Rattle.stl_decl.specs.Steps.{GivesOr, at_rest};
 ghost use Rattle.block_loader.specs.Told.{Gives};
 ghost use Rattle.block_loader.specs.Fronts.{code_front_at, data_at, front_by, front_at};
 ghost use Rattle.block_loader.specs.Blocks.{block_by, block_from, items_of, blocks_of};
+ghost use Rattle.block_loader.specs.Sound.{IsSoundFront, IsSoundBlock};
 
 use crate::error::LoadError;
 use crate::heads::{BlockKind, Heading, heading_at, heads_at};
@@ -165,6 +166,7 @@ fn block_by(
     requires tokens { length tokens.now ≤ 1048576 }
     requires from { from ≤ length tokens.now }
     ensures exact { Gives (λ x. x) result (block_by front text.now tokens.now from) }
+    ensures sound { IfOk result (λ x. IsSoundFront front → IsSoundBlock x.0) }
     ensures within { IfOk result (λ x. x.1 ≤ length tokens.now) }
 {
     match front {
@@ -195,6 +197,7 @@ fn block_from(
     requires tokens { length tokens.now ≤ 1048576 }
     requires from { from ≤ length tokens.now }
     ensures exact { Gives (λ x. x) result (block_from text.now tokens.now from) }
+    ensures sound { IfOk result (λ x. IsSoundBlock x.0) }
     ensures within { IfOk result (λ x. x.1 ≤ length tokens.now) }
 {
     let list = tokens.as_slice();
@@ -207,7 +210,8 @@ fn block_from(
 pub fn blocks_of(alloc: Global, text: &[u8], tokens: &Tokens) -> Result<Vec<SourceBlock>, LoadError>
     requires text { length text.now ≤ 1048576 }
     requires tokens { length tokens.now ≤ 1048576 }
-    ensures { Gives items_of result (blocks_of text.now tokens.now) }
+    ensures exact { Gives items_of result (blocks_of text.now tokens.now) }
+    ensures sound { IfOk result (λ v. All IsSoundBlock v.items) }
 {
     let mut blocks = Vec::new(alloc);
     let mut at = 0;

@@ -1,7 +1,7 @@
 //! The faults of a whole source whose blocks have been read.
-ghost use Rattle.std.specs.Prelude.{◌≡◌, ◌<◌, ◌≤◌, ◌+◌, ◌^◌, ◌==◌, [], ◌∷◌, ℕ, List, length, drop, IfOk, OnOk, None, Some, map};
+ghost use Rattle.std.specs.Prelude.{◌≡◌, ◌<◌, ◌≤◌, ◌+◌, ◌^◌, ◌==◌, [], ℕ, List, length, drop, IfOk, OnOk, None, Some, map};
 ghost use Rattle.std.specs.Str.{bytes_eq};
-ghost use Rattle.std.specs.List.{flat_map, list_any, list_all};
+ghost use Rattle.std.specs.List.{flat_map, list_all};
 ghost use Rattle.indexmap.specs.IndexMap.{get};
 ghost use Rattle.s7_base.specs.Statements.{is_ju, is_jl};
 ghost use Rattle.block_loader.specs.declared.faults.SourceFault.{SourceFault};
@@ -9,7 +9,7 @@ ghost use Rattle.block_loader.specs.Least.{IsLeast};
 ghost use Rattle.block_loader.specs.Faults.{is_before, lesser, least_of, target, with_label, double_label, double_labels, is_far, has_list, at_jump, landing_fault, label_fault, jump_fault, code_faults, inner_faults, kind_byte, name_of, line_of, data_size, total, counted, is_too_large, at_head, head_faults, missing, first_fault, told_of_source};
 
 use crate::blocks::{SourceBlock, SourceCode, SourceData};
-use indexmap::IndexMap;
+use indexmap::{IndexMap, IndexSet};
 use s7_base::{Branch, CodeKind, Operation, Statement, instruction_row};
 use std::alloc::{AllocError, AllocFailed, Global};
 use stl_decl::FaultKind;
@@ -423,11 +423,12 @@ fn take_head(
     take_at_head(too_large, number, FaultKind::TooLarge, block, many)
 }
 
+/// The least fault with that of OB1 where it isn't there.
 #[tactic(auto, unfolding(crate::specs::Faults::least_of))]
-fn take_missing(names: &[[u8; 2]], found: Option<SourceFault>) -> Option<SourceFault>
-    ensures { result ≡ least_of found (missing (list_any (λ n. bytes_eq n (0 ∷ 1 ∷ [])) names.now)) }
+fn take_missing(has_ob1: bool, found: Option<SourceFault>) -> Option<SourceFault>
+    ensures { result ≡ least_of found (missing has_ob1) }
 {
-    if names.contains(&[0, 1]) {
+    if has_ob1 {
         found
     } else {
         lesser(
@@ -446,7 +447,8 @@ fn take_missing(names: &[[u8; 2]], found: Option<SourceFault>) -> Option<SourceF
 pub fn first_fault(alloc: Global, blocks: &[SourceBlock]) -> Result<Option<SourceFault>, AllocError>
     ensures { IfOk result (λ f. f ≡ first_fault blocks.now) }
 {
-    let mut names: Vec<[u8; 2]> = Vec::new(alloc);
+    let mut names: IndexSet<[u8; 2]> = IndexSet::new(alloc);
+    let mut number: usize = 0;
     let mut totals = Totals {
         statements: 0,
         bytes: 0,
@@ -454,14 +456,13 @@ pub fn first_fault(alloc: Global, blocks: &[SourceBlock]) -> Result<Option<Sourc
     };
     let mut least = None;
     for block in blocks {
-        let name = block.name();
-        let taken = names.contains(&name);
-        names.push(name)?;
+        let taken = !names.insert(block.name())?;
+        number += 1;
         totals = counted(totals, block);
-        least = take_head(taken, names.len(), totals, block, least);
-        least = take_inner(alloc, names.len(), block, least)?;
+        least = take_head(taken, number, totals, block, least);
+        least = take_inner(alloc, number, block, least)?;
     }
-    Ok(take_missing(names.as_slice(), least))
+    Ok(take_missing(names.contains(&[0, 1]), least))
 }
 
 /// What is told of a fault.
