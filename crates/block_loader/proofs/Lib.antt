@@ -5,3 +5,8 @@ pub mod Names
 pub mod Least
 pub mod Sources
 pub mod Program
+pub mod Landing
+pub mod Ordered
+pub mod Order
+pub mod Written
+pub mod Formed

@@ -1,13 +1,14 @@
 //! Loads a source: the blocks of its program, or its first fault.
-ghost use Rattle.std.specs.Prelude.{◌≡◌, ◌≤◌, ℕ, List, length, map, IfOk, IfErr, OnOk};
-ghost use Rattle.std.specs.List.{fold, filter};
+ghost use Rattle.std.specs.Prelude.{◌≡◌, ◌≤◌, ℕ, List, length, map, None, IfOk, IfErr, OnOk};
+ghost use Rattle.std.specs.List.{All, fold, filter};
 ghost use Rattle.std.specs.Str.{bytes_eq};
 ghost use Rattle.indexmap.specs.IndexMap.{get};
 ghost use Rattle.s7_base.specs.Limits.{IsWellFormed};
 ghost use Rattle.block_loader.specs.Told.{Gives};
 ghost use Rattle.block_loader.specs.Blocks.{items_of};
 ghost use Rattle.block_loader.specs.declared.error.LoadError.TheVariants.{NoMemory};
-ghost use Rattle.block_loader.specs.Faults.{kind_byte};
+ghost use Rattle.block_loader.specs.Faults.{kind_byte, first_fault};
+ghost use Rattle.block_loader.specs.Sound.{IsSoundBlock};
 ghost use Rattle.block_loader.specs.Load.{with_target, jumping, landed_one, landed, loaded_code, bytes_of, loaded_data, is_code_before, is_data_before, with_code, with_data, added, program_of, sources_of, Loads};
 
 use crate::blocks::{SourceBlock, SourceCode, SourceData, blocks_of};
@@ -197,7 +198,9 @@ fn parts_of(alloc: Global, blocks: &[SourceBlock]) -> Result<Parts, LoadError>
 #[tactic(auto, unfolding(crate::specs::Load::sources_of))]
 fn sources_of(alloc: Global, text: &[u8]) -> Result<Vec<SourceBlock>, LoadError>
     requires text { length text.now ≤ 1048576 }
-    ensures { Gives items_of result (sources_of text.now) }
+    ensures exact { Gives items_of result (sources_of text.now) }
+    ensures sound { IfOk result (λ v. All IsSoundBlock v.items) }
+    ensures faultless { IfOk result (λ v. first_fault v.items ≡ None) }
 {
     let list = tokens(alloc, text)?;
     let blocks = blocks_of(alloc, text, &list)?;
