@@ -1,7 +1,7 @@
 -- The program of a source without a fault is well formed.
-use Rattle.std.proofs.Common.{◌≡◌, ◌≢◌, ◌≤◌, ◌==◌, ◌&&◌, ◌||◌, ◌+◌, ◌/◌, ◌%◌, ◌⊎◌, if◌then◌else◌, inl, inr, ⊎_elim, ℕ, List, [], ◌∷◌, ◌++◌, refl, subst, arith, sym, ◌∙◌, Bool, true, false, length, map, min, nat_lt, nat_le, not, append-nil, append_assoc}
-use Rattle.std.specs.Prelude.{IsTrue, None}
-use Rattle.std.specs.List.{All, filter, find, fold, insert, list_any, sum_by}
+use Rattle.std.proofs.Common.{◌≡◌, ◌≢◌, ◌≤◌, ◌==◌, ◌&&◌, ◌||◌, ◌+◌, ◌/◌, ◌⊎◌, if◌then◌else◌, inl, inr, ℕ, List, [], ◌∷◌, ◌++◌, refl, subst, arith, sym, ◌∙◌, Bool, true, false, length, map, min, nat_lt, nat_le, not, append-nil, append_assoc}
+use Rattle.std.specs.Prelude.{None}
+use Rattle.std.specs.List.{All, filter, fold, list_any}
 use Rattle.std.specs.Str.{bytes_eq}
 use Rattle.std.proofs.lemmas.Bool.{and_from, eq-eqb, eqb-false, le-leb, ltb-false, or_cases, or_left, or_parts, or_right}
 use Rattle.std.proofs.lemmas.Bool.Decides.{not_from_Decides}
@@ -11,7 +11,6 @@ use Rattle.std.proofs.lemmas.List.Filters.{length-filter_both}
 use Rattle.std.proofs.lemmas.List.Folds.{list_any-append}
 use Rattle.std.proofs.lemmas.List.Sums.{sum_by-insert}
 use Rattle.std.proofs.lemmas.Slice.Eq.{bytes_eq-Decides}
-use Rattle.s7_base.specs.declared.blocks.CodeKind.{CodeKind}
 use Rattle.s7_base.specs.declared.blocks.CodeKind.TheVariants.{Ob}
 use Rattle.s7_base.specs.Blocks as programs
 use Rattle.s7_base.specs.Blocks.{same_kind}
@@ -26,7 +25,7 @@ use Rattle.block_loader.specs.declared.blocks.SourceCode.{SourceCode}
 use Rattle.block_loader.specs.declared.blocks.SourceData.{SourceData}
 use Rattle.block_loader.specs.declared.blocks.SourceBlock.{SourceBlock}
 use Rattle.block_loader.specs.declared.blocks.SourceBlock.TheVariants.{Code, Data}
-use Rattle.block_loader.specs.Faults.{kind_byte, name_of, data_size, total, counted, is_too_large, at_head, head_faults, inner_faults, double_labels, jump_faults, code_faults, blocks_faults, missing, no_totals, source_faults, first_fault}
+use Rattle.block_loader.specs.Faults.{kind_byte, name_of, data_size, total, counted, is_too_large, at_head, head_faults, inner_faults, double_labels, jump_faults, blocks_faults, missing, no_totals, source_faults, first_fault}
 use Rattle.block_loader.specs.Load.{landed, loaded_code, bytes_of, loaded_data, with_code, with_data, is_code_before, is_data_before, added, no_blocks, program_of}
 use Rattle.block_loader.specs.Sound.{IsSoundCode, IsSoundData, IsSoundBlock}
 use Rattle.block_loader.proofs.Least.{none_is}
@@ -164,6 +163,7 @@ is_named front name n e = by (or_cases (list_any (λ m. bytes_eq m n) front) (by
     new : (bytes_eq name n ≡ true) ⊎ (false ≡ true) → name ≡ n
     new (inl h) = (bytes_eq-Decides name n).0 h
     new (inr h) = cc
+
     by : (list_any (λ m. bytes_eq m n) front ≡ true) ⊎ ((bytes_eq name n || false) ≡ true) → (list_any (λ m. bytes_eq m n) front ≡ true) ⊎ (name ≡ n)
     by (inl h) = inl h
     by (inr h) = inr (new (or_cases (bytes_eq name n) false h))

@@ -1,5 +1,5 @@
 -- The jumps of a body whose faults are none land.
-use Rattle.std.specs.Prelude.{◌≡◌, ℕ, List, [], length, All, IsTrue}
+use Rattle.std.specs.Prelude.{◌≡◌, ℕ, [], length, All, IsTrue}
 use Rattle.s7_base.specs.Statements.{all_land, is_statement}
 use Rattle.stl_reader.specs.Contents.{Contents}
 use Rattle.stl_reader.specs.Sound.{IsSound}

@@ -1,7 +1,7 @@
 -- An element that is put behind those that stand before it.
-use Rattle.std.proofs.Common.{◌≡◌, ◌&&◌, ◌||◌, ℕ, zero, suc, List, [], ◌∷◌, ◌++◌, refl, Bool, true, false, length, take, drop, is_some}
+use Rattle.std.proofs.Common.{◌≡◌, ◌&&◌, ◌||◌, ℕ, zero, suc, List, [], ◌∷◌, refl, Bool, true, false, length, take, drop, is_some}
 use Rattle.std.specs.List.{All, filter, find, insert, list_any}
-use Rattle.std.proofs.lemmas.Bool.{and_from, and_parts, or_cases, or_left, or_right}
+use Rattle.std.proofs.lemmas.Bool.{and_from, and_parts}
 use Rattle.std.proofs.lemmas.List.Elements.{All-append, All-cons, All-drop, All-head, All-tail, All-take}
 
 module _ {X : Type 0} (before : X → X → Bool) where

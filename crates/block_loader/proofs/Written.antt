@@ -1,9 +1,8 @@
 -- Writing keeps the number of bytes.
-use Rattle.std.proofs.Common.{◌≡◌, ◌==◌, ◌+◌, ◌-◌, ◌*◌, ◌/◌, ◌%◌, ◌≤◌, ℕ, zero, suc, List, [], ◌∷◌, refl, arith, ◌∙◌, Bool, true, false, length, replicate, length-set, set, slice_index, if◌then◌else◌}
+use Rattle.std.proofs.Common.{◌≡◌, ◌==◌, ◌+◌, ◌-◌, ◌*◌, ◌/◌, ◌%◌, ℕ, zero, suc, List, [], ◌∷◌, refl, arith, ◌∙◌, Bool, true, false, length, replicate, length-set, set, slice_index, if◌then◌else◌}
 use Rattle.std.proofs.lemmas.List.{length-replicate}
 use Rattle.stl_decl.specs.declared.layout.FirstValue.{FirstValue}
 use Rattle.stl_decl.specs.Layout.{Section, size_of}
-use Rattle.stl_decl.specs.Types.{round_up}
 use Rattle.stl_decl.specs.Bytes.{with_bit, put_bit, put_bytes, put, fill_elements, written, first_bytes}
 
 length-put_bytes : (at n value : ℕ) (bytes : List ℕ) → length (put_bytes at n value bytes) ≡ length bytes

@@ -1,4 +1,4 @@
-use Rattle.std.proofs.Common.{◌≡◌, sym, subst}
+use Rattle.std.proofs.Common.{sym, subst}
 use Rattle.std.proofs.lemmas.Bool.{false≢true}
 use Rattle.s7_base.specs.Limits.{IsWellFormed}
 use Rattle.block_loader.specs.Load.{program_of}
