@@ -8,3 +8,7 @@ pub mod Program
 pub mod Values
 pub mod Landing
 pub mod Numbers
+pub mod Ordered
+pub mod Order
+pub mod Written
+pub mod Formed
