@@ -1,8 +1,8 @@
 -- The fold gives the least fault.
-use Rattle.std.proofs.Common.{◌≡◌, ◌≤◌, ◌<◌, ◌==◌, ◌&&◌, ◌||◌, ◌⊎◌, ◌≢◌, inl, inr, ℕ, zero, suc, List, [], ◌∷◌, refl, subst, arith, sym, ◌∙◌, Bool, true, false, cond}
+use Rattle.std.proofs.Common.{◌≡◌, ◌==◌, ◌&&◌, ◌||◌, ◌⊎◌, ◌≢◌, inl, inr, ℕ, List, [], ◌∷◌, refl, subst, arith, sym, ◌∙◌, Bool, true, false}
 use Rattle.std.proofs.lemmas.Bool.{eqb-true, ltb-true, ltb-false}
 use Rattle.std.proofs.lemmas.Bool.Decides.{eqb_tells}
-use Rattle.std.specs.Prelude.{Option, Some, None, nat_lt}
+use Rattle.std.specs.Prelude.{Some, None, nat_lt}
 use Rattle.block_loader.specs.declared.faults.SourceFault.{SourceFault}
 use Rattle.stl_decl.specs.Faults.{kind_number}
 use Rattle.block_loader.specs.Faults.{least_of, lesser, is_before}

@@ -1,5 +1,5 @@
 -- A map of the names so far, and the labels so far.
-use Rattle.std.proofs.Common.{◌≡◌, ◌≤◌, ◌<◌, ℕ, zero, suc, List, [], ◌∷◌, ◌++◌, ◌-◌, ◌+◌, refl, subst, ap, arith, sym, ◌∙◌, Bool, true, false, cond, length, take, drop, get_or, add-one}
+use Rattle.std.proofs.Common.{◌≡◌, ◌≤◌, ◌<◌, ℕ, suc, List, [], ◌∷◌, ◌++◌, ◌+◌, refl, subst, sym, ◌∙◌, Bool, true, false, cond, length, take, drop, get_or, add-one}
 use Rattle.std.proofs.Math.Seq.{drop-cons}
 use Rattle.std.proofs.lemmas.List.{take_more}
 use Rattle.std.proofs.Math.ListN.{drop_of_length-le}

@@ -1,5 +1,5 @@
 -- Loops that build a program from lists.
-use Rattle.std.proofs.Common.{◌≡◌, ◌≤◌, ◌<◌, ℕ, zero, suc, List, [], ◌∷◌, ◌++◌, ◌+◌, refl, subst, ap, arith, sym, ◌∙◌, length, take, drop, get_or, add-one, map}
+use Rattle.std.proofs.Common.{◌≡◌, ◌≤◌, ◌<◌, ℕ, suc, List, [], ◌∷◌, ◌++◌, ◌+◌, refl, subst, ap, sym, ◌∙◌, length, take, drop, get_or, add-one, map}
 use Rattle.std.proofs.Math.Seq.{drop-cons}
 use Rattle.std.proofs.lemmas.List.{take_more, map_push, take_all}
 use Rattle.std.proofs.Math.ListN.{drop_of_length-le}

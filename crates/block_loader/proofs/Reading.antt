@@ -1,11 +1,10 @@
 -- What one turn of the reading of a source comes to.
-use Rattle.std.proofs.Common.{◌≡◌, ◌∙◌, ◌≤◌, ◌<◌, ℕ, List, [], ◌∷◌, ◌++◌, refl, sym, ap, length, Bool, true, false, arith}
-use Rattle.std.specs.Prelude.{Result, Ok, Err, nat_le}
+use Rattle.std.proofs.Common.{◌≡◌, ◌≤◌, ◌<◌, ℕ, List, [], ◌∷◌, ◌++◌, refl, length, Bool, true, false, arith}
+use Rattle.std.specs.Prelude.{Ok, Err, nat_le}
 use Rattle.std.proofs.lemmas.Bool.{le-leb, leb-true}
 use Rattle.stl_lex.specs.declared.fault.LoadFault.{LoadFault}
 use Rattle.stl_lex.specs.declared.token.Token.{Token}
-use Rattle.stl_decl.specs.Repeat.{Turn, Ended, Goes}
-use Rattle.block_loader.specs.Told.{◌>>=◌}
+use Rattle.stl_decl.specs.Repeat.{Ended, Goes}
 use Rattle.block_loader.specs.Blocks.{blocks_turn, block_from}
 use Rattle.block_loader.specs.declared.blocks.SourceBlock.{SourceBlock}
 

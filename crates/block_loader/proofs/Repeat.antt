@@ -1,5 +1,5 @@
 -- One more turn of a loop of reading, as it is told.
-use Rattle.std.proofs.Common.{◌≡◌, ◌≤◌, ◌<◌, ℕ, zero, suc, ◌-◌, ◌+◌, refl, subst, sym}
+use Rattle.std.proofs.Common.{◌≡◌, ◌≤◌, ◌<◌, ℕ, ◌-◌, ◌+◌, subst, sym}
 use Rattle.std.specs.Prelude.{Result, Ok, Err}
 use Rattle.stl_lex.specs.declared.fault.LoadFault.{LoadFault}
 use Rattle.stl_decl.specs.Repeat.{Turn, Ended, Goes}

@@ -1,10 +1,10 @@
 -- One more block of the whole source.
-use Rattle.std.proofs.Common.{◌≡◌, ◌≤◌, ◌<◌, ◌==◌, ℕ, zero, suc, List, [], ◌∷◌, ◌++◌, ◌-◌, ◌+◌, refl, subst, ap, arith, sym, ◌∙◌, Bool, true, false, cond, ◌||◌, length, take, drop, get_or, add-one, map}
+use Rattle.std.proofs.Common.{◌≡◌, ◌≤◌, ◌<◌, ◌==◌, ℕ, suc, List, [], ◌∷◌, ◌++◌, ◌+◌, refl, subst, ap, arith, sym, ◌∙◌, Bool, true, false, cond, ◌||◌, length, take, drop, get_or, map}
 use Rattle.std.proofs.Math.Seq.{drop-cons}
 use Rattle.std.proofs.lemmas.List.{take_more, map_push, take_all}
 use Rattle.std.proofs.lemmas.List.Folds.{list_any-append}
 use Rattle.std.proofs.Math.ListN.{drop_of_length-le}
-use Rattle.std.specs.Prelude.{Option, Some, None}
+use Rattle.std.specs.Prelude.{Option, None}
 use Rattle.std.specs.List.{list_any}
 use Rattle.std.specs.Str.{bytes_eq}
 use Rattle.stl_decl.specs.declared.fault.FaultKind.TheVariants.{DoubleBlock, TooManyBlocks, TooLarge}

@@ -1,10 +1,9 @@
 -- What one turn of a loop of reading comes to.
-use Rattle.std.proofs.Common.{◌≡◌, ◌∙◌, ℕ, List, [], ◌∷◌, refl, sym, ap}
-use Rattle.std.specs.Prelude.{Result, Ok, Err, Option, Some, None}
+use Rattle.std.proofs.Common.{◌≡◌, ℕ, List, ap}
+use Rattle.std.specs.Prelude.{Ok, Err, Option}
 use Rattle.stl_lex.specs.declared.token.Token.{Token}
 use Rattle.stl_decl.specs.declared.fault.Fault.{Fault}
 use Rattle.stl_decl.specs.Steps.{◌>>=◌}
-use Rattle.stl_decl.specs.Repeat.{Turn, Ended, Goes}
 use Rattle.block_loader.specs.Heads.{head_at, heads_by, heads_turn}
 
 module _ (text : List ℕ) (tokens : List Token) where

@@ -1,23 +1,18 @@
 -- The blocks of a source, as they are read.
-use Rattle.std.specs.Prelude.{◌≡◌, ℕ, List, [], ◌∷◌, ◌++◌, ◌+◌, ◌-◌, length, drop, min, nat_le, Result, Ok, Err, if◌then◌else◌, codes, Vec}
+use Rattle.std.specs.Prelude.{ℕ, List, [], ◌∷◌, ◌++◌, ◌+◌, ◌-◌, length, drop, min, nat_le, Result, Ok, if◌then◌else◌, Vec}
 use Rattle.std.specs.declared.alloc.Global.{Global}
-use Rattle.s7_base.specs.declared.blocks.CodeKind.{CodeKind}
 use Rattle.stl_lex.specs.declared.fault.LoadFault.{LoadFault}
 use Rattle.stl_lex.specs.declared.token.Token.{Token}
-use Rattle.stl_decl.specs.declared.fault.Fault.{Fault}
 use Rattle.stl_decl.specs.Faults.{told, told_of}
-use Rattle.stl_decl.specs.Steps.{end_fault, word_at}
+use Rattle.stl_decl.specs.Steps.{end_fault}
 use Rattle.stl_decl.specs.Repeat.{Turn, Ended, Goes}
 use Rattle.stl_decl.specs.Layout.{size_of}
-use Rattle.stl_decl.specs.Sections.{temporaries_at, structure_at, assignments_at}
 use Rattle.stl_reader.specs.Reading.{body_of}
 use Rattle.block_loader.specs.Told.{◌>>=◌, repeated}
 use Rattle.block_loader.specs.Fronts.{front_at}
 use Rattle.block_loader.specs.declared.blocks.Front.{Front}
 use Rattle.block_loader.specs.declared.blocks.Front.TheVariants as fronted
 use Rattle.block_loader.specs.declared.blocks.CodeFront.{CodeFront}
-use Rattle.block_loader.specs.declared.blocks.SourceCode.{SourceCode}
-use Rattle.block_loader.specs.declared.blocks.SourceData.{SourceData}
 use Rattle.block_loader.specs.declared.blocks.SourceBlock.{SourceBlock}
 use Rattle.block_loader.specs.declared.blocks.SourceBlock.TheVariants as blocks
 

@@ -1,7 +1,7 @@
 -- All faults of a source whose blocks have been read, and the first of them.
-use Rattle.std.specs.Prelude.{◌≡◌, ℕ, List, [], ◌∷◌, ◌++◌, map, length, drop, take, min, ◌==◌, ◌&&◌, ◌||◌, ◌+◌, ◌-◌, ◌/◌, nat_lt, nat_le, not, Bool, true, false, Option, Some, None, Result, Ok, Err, slice_get, if◌then◌else◌}
+use Rattle.std.specs.Prelude.{ℕ, List, [], ◌∷◌, ◌++◌, map, length, drop, take, min, ◌==◌, ◌&&◌, ◌||◌, ◌+◌, ◌-◌, ◌/◌, nat_lt, nat_le, not, Bool, Option, Some, None, Result, Ok, Err, slice_get, if◌then◌else◌}
 use Rattle.std.specs.List.{flat_map, find, list_any, list_all}
-use Rattle.std.specs.Option.{option_map, option_map_or}
+use Rattle.std.specs.Option.{option_map}
 use Rattle.std.specs.Str.{bytes_eq}
 use Rattle.s7_base.specs.declared.blocks.CodeKind.TheVariants.{Ob, Fb, Fc}
 use Rattle.s7_base.specs.declared.blocks.CodeKind.{CodeKind}

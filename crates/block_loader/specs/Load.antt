@@ -1,5 +1,5 @@
 -- What a source means: the blocks of a program.
-use Rattle.std.specs.Prelude.{◌≡◌, ℕ, List, [], ◌∷◌, map, min, length, ◌==◌, ◌&&◌, ◌||◌, nat_lt, nat_le, Bool, Option, Some, None, Result, Ok, Err, slice_get, slice_set, if◌then◌else◌}
+use Rattle.std.specs.Prelude.{◌≡◌, ℕ, List, [], map, min, length, ◌==◌, ◌&&◌, ◌||◌, nat_lt, nat_le, Bool, Option, Some, None, Result, Ok, Err, slice_get, slice_set, if◌then◌else◌}
 use Rattle.std.specs.List.{fold, insert, filter}
 use Rattle.s7_base.specs.declared.statement.Statement.{Statement}
 use Rattle.s7_base.specs.Blocks as programs

@@ -1,5 +1,5 @@
 -- What holds of each block that is read.
-use Rattle.std.specs.Prelude.{◌≡◌, ℕ, ◌%◌, ◌≤◌, List, All, IsTrue}
+use Rattle.std.specs.Prelude.{◌≡◌, ◌%◌, ◌≤◌, IsTrue}
 use Rattle.s7_base.specs.Limits.{has_number, locals_of}
 use Rattle.stl_reader.specs.Sound.{IsSound}
 use Rattle.block_loader.specs.declared.blocks.Front.{Front}

@@ -1,5 +1,5 @@
 //! The blocks of a source, as they are read.
-ghost use Rattle.std.specs.Prelude.{◌≡◌, ◌≤◌, length, All, IfOk};
+ghost use Rattle.std.specs.Prelude.{◌≤◌, length, All, IfOk};
 ghost use Rattle.stl_decl.specs.Steps.{GivesOr, at_rest};
 ghost use Rattle.block_loader.specs.Told.{Gives};
 ghost use Rattle.block_loader.specs.Fronts.{code_front_at, data_at, front_by, front_at};

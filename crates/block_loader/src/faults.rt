@@ -1,16 +1,16 @@
 //! The faults of a whole source whose blocks have been read.
-ghost use Rattle.std.specs.Prelude.{◌≡◌, ◌<◌, ◌≤◌, ◌+◌, ◌^◌, ◌==◌, [], ℕ, List, length, drop, IfOk, OnOk, None, Some, map};
+ghost use Rattle.std.specs.Prelude.{◌≡◌, ◌<◌, ◌≤◌, ◌+◌, ◌^◌, [], ℕ, List, drop, IfOk, OnOk, None, Some};
 ghost use Rattle.std.specs.Str.{bytes_eq};
 ghost use Rattle.std.specs.List.{flat_map, list_all};
 ghost use Rattle.indexmap.specs.IndexMap.{get};
-ghost use Rattle.s7_base.specs.Statements.{is_ju, is_jl};
+ghost use Rattle.s7_base.specs.Statements.{is_ju};
 ghost use Rattle.block_loader.specs.declared.faults.SourceFault.{SourceFault};
 ghost use Rattle.block_loader.specs.Least.{IsLeast};
-ghost use Rattle.block_loader.specs.Faults.{is_before, lesser, least_of, target, with_label, double_label, double_labels, is_far, has_list, at_jump, landing_fault, label_fault, jump_fault, code_faults, inner_faults, kind_byte, name_of, line_of, data_size, total, counted, is_too_large, at_head, head_faults, missing, first_fault, told_of_source};
+ghost use Rattle.block_loader.specs.Faults.{is_before, lesser, least_of, target, with_label, double_label, double_labels, is_far, has_list, landing_fault, label_fault, jump_fault, code_faults, inner_faults, kind_byte, name_of, line_of, total, counted, is_too_large, at_head, head_faults, missing, first_fault, told_of_source};
 
-use crate::blocks::{SourceBlock, SourceCode, SourceData};
+use crate::blocks::{SourceBlock, SourceCode};
 use indexmap::{IndexMap, IndexSet};
-use s7_base::{Branch, CodeKind, Operation, Statement, instruction_row};
+use s7_base::CodeKind;
 use std::alloc::{AllocError, AllocFailed, Global};
 use stl_decl::FaultKind;
 use stl_lex::LoadFault;
@@ -113,28 +113,10 @@ fn is_far(target: u32, jump: u32) -> bool
     target as u64 + 2000 < jump as u64 || jump as u64 + 2000 < target as u64
 }
 
-fn is_ju(statement: Statement) -> bool
-    ensures { result ≡ is_ju statement }
-{
-    match instruction_row(statement.op) {
-        Some(row) => matches!(row.operation, Operation::Branch(Branch::Ju)),
-        None => false,
-    }
-}
-
-fn is_jl(statement: Statement) -> bool
-    ensures { result ≡ is_jl statement }
-{
-    match instruction_row(statement.op) {
-        Some(row) => matches!(row.operation, Operation::Branch(Branch::Jl)),
-        None => false,
-    }
-}
-
 fn are_ju(statements: &[BodyStatement]) -> bool
     ensures { result ≡ list_all (λ s. is_ju s.statement) statements.now }
 {
-    statements.iter().all(|s| is_ju(s.statement))
+    statements.iter().all(|s| s.statement.is_ju())
 }
 
 /// Whether between a JL and its target stand 1 to 255 JU and nothing else.
@@ -172,7 +154,7 @@ fn take_landing(
 ) -> Option<SourceFault>
     ensures { result ≡ least_of found (landing_fault block jump target statement after.now) }
 {
-    if is_jl(statement.statement) && !has_list(jump.statement, target, after) {
+    if statement.statement.is_jl() && !has_list(jump.statement, target, after) {
         return lesser(
             found,
             fault_of_jump(block, jump, FaultKind::NoLabel, statement.line),

@@ -1,12 +1,10 @@
 //! The heads of blocks.
-ghost use Rattle.std.specs.Prelude.{◌≡◌, ◌≤◌, ◌<◌, ◌^◌, length, IfOk};
+ghost use Rattle.std.specs.Prelude.{◌≡◌, ◌≤◌, length};
 ghost use Rattle.std.specs.Option.{option_map};
-ghost use Rattle.s7_base.specs.Priorities.{is_alarm};
-ghost use Rattle.s7_base.specs.Limits.{is_ob};
 ghost use Rattle.stl_decl.specs.Steps.{Gives, at_rest};
 ghost use Rattle.block_loader.specs.Heads.{kind_of, kind_at, kind_word, numbered, type_at, result_at, heading_at, owner_at, version_at, is_owner, is_plain_head, entry_at, head_at, heads_at};
 
-use s7_base::CodeKind;
+use s7_base::{CodeKind, is_ob};
 use stl_decl::{
     Fault, FaultKind, end_fault, fault_at, is_word, next, number_at, sign_at, unfit, word_at,
 };
@@ -27,18 +25,6 @@ pub struct Heading {
     pub kind: BlockKind,
     pub number: u8,
     pub line: u32,
-}
-
-fn is_alarm(number: u8) -> bool
-    ensures { result ≡ is_alarm number }
-{
-    matches!(number, 30..=38 | 40..=47 | 70 | 72 | 80 | 82)
-}
-
-fn is_ob(number: u8) -> bool
-    ensures { result ≡ is_ob number }
-{
-    is_alarm(number) || matches!(number, 1 | 85 | 100 | 121 | 122)
 }
 
 /// The kind of block that a word begins.

@@ -1,5 +1,5 @@
 //! Loads a source: the blocks of its program, or its first fault.
-ghost use Rattle.std.specs.Prelude.{◌≡◌, ◌≤◌, ℕ, List, length, map, All, None, IfOk, IfErr, OnOk};
+ghost use Rattle.std.specs.Prelude.{◌≡◌, ◌≤◌, length, map, All, None, IfOk, IfErr, OnOk};
 ghost use Rattle.std.specs.List.{fold, filter};
 ghost use Rattle.std.specs.Str.{bytes_eq};
 ghost use Rattle.indexmap.specs.IndexMap.{get};
@@ -16,7 +16,7 @@ use crate::error::LoadError;
 use crate::faults::{first_fault, kind_byte, labels_of, told_of_source};
 use indexmap::IndexMap;
 use s7_base::{Blocks, CodeBlock, DataBlock, Statement};
-use std::alloc::{AllocError, AllocFailed, Global};
+use std::alloc::{AllocFailed, Global};
 use std::marker::Model;
 use stl_decl::{Layout, first_bytes};
 use stl_lex::tokens;
@@ -112,7 +112,7 @@ fn bytes_of(alloc: Global, layout: &Layout) -> Result<Vec<u8>, LoadError>
     ensures memory { IfErr result (λ e. e ≡ NoMemory) }
 {
     if layout.size() <= 65536 {
-        first_bytes(alloc, layout).map_err(|_| LoadError::NoMemory)
+        Ok(first_bytes(alloc, layout)?)
     } else {
         Ok(Vec::new(alloc))
     }

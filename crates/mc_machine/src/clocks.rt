@@ -3,12 +3,9 @@ ghost use Rattle.std.specs.Prelude.{◌≡◌, OnOk, OnErr, IfErr, Ok, Err, ◌%
 ghost use Rattle.mc_machine.specs.TimerEffect.{timer_at, with_timer, timer_after, effect_timer, effect_start, effect_timed};
 
 use crate::Memory;
-use crate::instruction::{TimedOperation, TimerOperation};
+use crate::instruction::{BAD_DIGIT, TimedOperation, TimerOperation};
 use s5_time::{S5, read, write};
 use timers::{Timer, TimerKind};
-
-/// The error of a digit above 9.
-const BAD_DIGIT: u8 = 1;
 
 impl Memory {
     fn timer(&self, n: u8) -> Timer

@@ -3,12 +3,9 @@ ghost use Rattle.std.specs.Prelude.{◌≡◌, length, OnOk, OnErr, IfErr, Ok, E
 ghost use Rattle.mc_machine.specs.CounterEffect.{counter_at, with_counter, effect_set, effect_counter};
 
 use crate::Memory;
-use crate::instruction::CounterOperation;
+use crate::instruction::{BAD_DIGIT, CounterOperation};
 use counters::Counter;
 use s5_time::{bcd3, read_bcd3};
-
-/// The error of a digit above 9.
-const BAD_DIGIT: u8 = 1;
 
 impl Memory {
     pub(crate) fn counter(&self, n: u8) -> Counter

@@ -217,6 +217,9 @@ pub enum Instruction {
     Nothing,
 }
 
+/// The error of a digit above 9.
+pub(crate) const BAD_DIGIT: u8 = 1;
+
 /// Where a statement leads.
 #[derive(Clone, Copy, Debug, PartialEq, Eq)]
 pub enum Flow {

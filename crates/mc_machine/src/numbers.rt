@@ -4,11 +4,8 @@ ghost use Rattle.accumulators.specs.Parts.{part, number};
 ghost use Rattle.mc_machine.specs.NumberEffect.{effect_number, count_of, effect_word};
 
 use crate::Registers;
-use crate::instruction::{NumberInstruction, WordInstruction};
+use crate::instruction::{BAD_DIGIT, NumberInstruction, WordInstruction};
 use accumulators::Accus;
-
-/// The error of a digit above 9.
-const BAD_DIGIT: u8 = 1;
 
 /// The number in an accumulator, or where it is not wide in its low word.
 fn number_in(accu: u32, wide: bool) -> i32

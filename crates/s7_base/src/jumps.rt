@@ -20,7 +20,8 @@ impl Statement {
         }
     }
 
-    fn is_ju(&self) -> bool
+    /// Whether the operation is JU.
+    pub fn is_ju(&self) -> bool
         ensures { result ≡ is_ju self.now }
     {
         match instruction_row(self.op) {
@@ -29,7 +30,8 @@ impl Statement {
         }
     }
 
-    fn is_jl(&self) -> bool
+    /// Whether the operation is JL.
+    pub fn is_jl(&self) -> bool
         ensures { result ≡ is_jl self.now }
     {
         match instruction_row(self.op) {

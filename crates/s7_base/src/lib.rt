@@ -21,6 +21,7 @@ pub use diagnostics::{Area, DiagCode};
 pub use entry::{Answer, Ask, Entry, Job, JobArea, Loss, Request, Side, StopCode};
 pub use fitting::fits;
 pub use instruction::{BitArea, BitInstruction, BitOperation, Instruction};
+pub use limits::is_ob;
 pub use operands::{OperandArea, OperandKind};
 pub use operation::{
     Arithmetic, BitLogic, BlockControl, Branch, Comparison, CounterControl, NoOperation, Operation,

@@ -9,7 +9,8 @@ use crate::blocks::{CodeBlock, CodeKind, DataBlock, code_in};
 use crate::jumps::all_land;
 use crate::priorities::is_alarm_ob;
 
-fn is_ob(number: u8) -> bool
+/// Whether an organisation block may have the number.
+pub fn is_ob(number: u8) -> bool
     ensures { result ≡ is_ob number }
 {
     is_alarm_ob(number) || matches!(number, 1 | 85 | 100 | 121 | 122)

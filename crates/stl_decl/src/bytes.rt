@@ -1,5 +1,6 @@
 //! The bytes that a section has at first.
 ghost use Rattle.std.specs.Prelude.{◌≡◌, ◌≤◌, ◌<◌, ◌^◌, slice_set, slice_index, length, IfOk};
+ghost use Rattle.stl_decl.specs.Steps.{IsNoFault};
 ghost use Rattle.stl_decl.specs.Layout.{size_of};
 ghost use Rattle.stl_decl.specs.Bytes.{with_bit, put_bit, put_bytes, put, fill_elements, written, first_bytes};
 
@@ -98,7 +99,8 @@ fn write_all(bytes: &mut [u8], values: &[FirstValue])
 /// order.
 pub fn first_bytes(alloc: Global, layout: &Layout) -> Result<Vec<u8>, StepError>
     requires { size_of layout.now ≤ 65536 }
-    ensures { IfOk result (λ v. v.items ≡ first_bytes layout.now) }
+    ensures exact { IfOk result (λ v. v.items ≡ first_bytes layout.now) }
+    ensures err { IsNoFault result }
 {
     let mut bytes = vec![in alloc; 0; layout.size() as usize]?;
     write_all(&mut bytes, layout.values());

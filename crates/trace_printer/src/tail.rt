@@ -1,5 +1,5 @@
 //! The tail of a text: the diagnostic entries and the images of a CPU.
-ghost use Rattle.std.specs.Prelude.{◌≡◌, ℕ, ◌+◌, ◌<◌, ◌≤◌, ◌++◌, [], length, slice_index, codes, Some};
+ghost use Rattle.std.specs.Prelude.{◌≡◌, ℕ, ◌+◌, ◌<◌, ◌≤◌, ◌++◌, length, slice_index, Some};
 ghost use Rattle.std.specs.Option.{option_map};
 ghost use Rattle.pair_io.specs.Writes.{Prints};
 ghost use Rattle.pair_core.specs.Image.{image, image_room};

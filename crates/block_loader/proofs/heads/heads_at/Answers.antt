@@ -1,4 +1,4 @@
-use Rattle.std.proofs.Common.{◌≡◌, ◌≤◌, ◌<◌, ◌-◌, ◌+◌, ℕ, arith, rules, ◌∙◌, ap}
+use Rattle.std.proofs.Common.{◌≡◌, arith, rules, ◌∙◌, ap}
 use Rattle.std.specs.Prelude.{Some, None, Ok}
 use Rattle.std.specs.Option.{option_map}
 use Rattle.std.proofs.lemmas.Result.{err_from_is_err_and}

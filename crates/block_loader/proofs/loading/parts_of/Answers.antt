@@ -1,4 +1,4 @@
-use Rattle.std.proofs.Common.{◌≡◌, arith}
+use Rattle.std.proofs.Common.{arith}
 use Rattle.block_loader.specs.Load.{added}
 use Rattle.block_loader.proofs.Program.{fold_more, fold_done}
 use Rattle.block_loader.proofs.loading.parts_of.Goals as goal

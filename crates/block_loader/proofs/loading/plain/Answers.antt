@@ -1,4 +1,4 @@
-use Rattle.std.proofs.Common.{◌≡◌, arith}
+use Rattle.std.proofs.Common.{arith}
 use Rattle.block_loader.proofs.Program.{mapped_more, mapped_done, no_statement_there}
 use Rattle.block_loader.proofs.loading.plain.Goals as goal
 

@@ -1,4 +1,4 @@
-use Rattle.std.proofs.Common.{◌≡◌, List, ap}
+use Rattle.std.proofs.Common.{List, ap}
 use Rattle.std.specs.List.{flat_map}
 use Rattle.s7_base.specs.Blocks.{Code, Data}
 use Rattle.trace_printer.specs.LoadText.{code_line, data_line}

@@ -1,4 +1,4 @@
-use Rattle.std.proofs.Common.{arith, refl}
+use Rattle.std.proofs.Common.{arith}
 use Rattle.trace_printer.specs.LoadText.{data_line}
 use Rattle.trace_printer.proofs.Blocks.{blocks_at, no_blocks_at}
 use Rattle.trace_printer.proofs.Sections.{less_left, stops, nothing_left}

@@ -1,4 +1,4 @@
-use Rattle.std.proofs.Common.{◌≡◌, ◌+◌, ◌∙◌, drop, ◌∷◌, Some, slice_get, sym, arith, ap, length}
+use Rattle.std.proofs.Common.{◌≡◌, ◌+◌, drop, ◌∷◌, Some, slice_get, sym, arith, ap, length}
 use Rattle.std.proofs.lemmas.Grind.{common_steps}
 use Rattle.pair_core.specs.Tail.{area_bytes}
 use Rattle.trace_printer.proofs.Lists.{drop_at}
