@@ -3,6 +3,7 @@ use Rattle.std.proofs.Common.{◌≡◌, ◌<◌, ◌≤◌, ◌==◌, ◌-◌, 
 use Rattle.std.specs.Prelude.{Option, Some, None, Result, Ok, Err, ◌&&◌, codes}
 use Rattle.std.specs.Str.{bytes_eq}
 use Rattle.std.proofs.lemmas.List.{length-drop}
+use Rattle.std.proofs.lemmas.Result.{IfOk-at_ok}
 use Rattle.s7_base.specs.declared.blocks.CodeKind.{CodeKind}
 use Rattle.stl_lex.specs.declared.token.Token.{Token}
 use Rattle.stl_decl.specs.declared.fault.Fault.{Fault}
@@ -136,6 +137,9 @@ module _ (text : List ℕ) (kind : CodeKind) (temps : Section) where
       by false e =
           either (is_heading text t) _ _ (gives (Some (bare None), ts) (omega arith))
           (followed (item_by (label_at text (t ∷ ts)) text kind temps (t ∷ ts)) _ (item_by_leaves t ts e (label_at text (t ∷ ts)) (label_found text (t ∷ ts))) (λ i h. gives _ h))
+
+  pub consumes : (tokens : List Token) (item : Item) (rest : List Token) → part_at text kind temps tokens ≡ Ok (Some item, rest) → length rest < length tokens
+  consumes tokens item rest e = let h = part_leaves tokens in IfOk-at_ok (λ p. length p.1 < length tokens) e h.fewer
 
   -- the parts from here on take a token at least, in however many turns
   repeated_leaves : (late : Fault) (n : ℕ) (s : Contents × List Token) → Leaves (λ x. x.1) (length s.1) (repeated late (body_turn text kind temps) n s)
