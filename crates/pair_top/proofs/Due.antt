@@ -11,7 +11,7 @@ use Rattle.pair_top.specs.declared.reading.TheConstants.{LIMIT}
 use Rattle.subsystem.specs.Part.{Part}
 use Rattle.plant_script.specs.Plan.{Plan}
 use Rattle.plant_script.specs.ScriptText.{IsScript}
-use Rattle.pair_top.specs.Reading.{File, WasRead, IsTooLong, IsAccepted, IsPlanned, IsNoSource, IsNoScript, HasFailed, IsNotPlayed, source_not_built, script_not_built}
+use Rattle.pair_top.specs.Reading.{File, WasRead, IsTooLong, IsAccepted, IsPlanned, IsNoSource, IsNoScript, HasFailed, IsNotPlayed, script_not_built}
 use Rattle.pair_top.specs.Orders.{Manner}
 use Rattle.pair_top.specs.Serving.{Written, Account, PlayServed, IsDue, IsDone, Tells, TellsTooMuch, TellsSource, TellsNoSource, TellsScript, TellsNoScript, GivesWhatIsDue}
 

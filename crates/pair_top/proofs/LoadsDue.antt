@@ -1,5 +1,5 @@
 -- What a call that tells blocks owes, from what it answers.
-use Rattle.std.proofs.Common.{◌≡◌, ℕ, zero, suc, ◌<◌, List, length, Option, Some, None, Result, Ok, Err, refl, sym, ap, ◌∙◌, arith}
+use Rattle.std.proofs.Common.{◌≡◌, ℕ, List, Option, Some, None, Result, Ok, Err, sym, ap, ◌∙◌, arith}
 use Rattle.pair_io.specs.Causes.{Rose}
 use Rattle.s7_base.specs.Blocks.{Program}
 use Rattle.stl_lex.specs.declared.fault.LoadFault.{LoadFault}
@@ -8,7 +8,7 @@ use Rattle.pair_top.specs.declared.faults.Fault.{Fault}
 use Rattle.pair_top.specs.declared.faults.Fault.TheVariants.{Usage, FileFault, TooLong, SourceFault, ScriptFault, SinkFault, NoMemory, Differs}
 use Rattle.pair_top.specs.Reading.{File, IsLoaded, IsFaulty, HasFailed, IsLoadRefusal}
 use Rattle.pair_top.specs.Serving.{Written, Account, IsQuiet, IsUnplayed, IsWriting, IsDue, IsDone, TellsTooMuch}
-use Rattle.pair_top.specs.Loading.{AreTold, LoadServed, TellsProgram, TellsFault, LoadsWhatIsDue}
+use Rattle.pair_top.specs.Loading.{LoadServed, TellsProgram, TellsFault, LoadsWhatIsDue}
 use Rattle.trace_printer.specs.LoadText.{load_text}
 use Rattle.pair_top.proofs.Due.{same_bytes, not_long, long_unread}
 

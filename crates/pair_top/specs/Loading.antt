@@ -1,5 +1,5 @@
 -- What a call that tells the blocks of a source answers and leaves; and what each call does, by its command.
-use Rattle.std.specs.Prelude.{◌≡◌, ℕ, zero, suc, List, Option, Some, None, Ok, Err}
+use Rattle.std.specs.Prelude.{◌≡◌, ℕ, List, Option, Some, None, Ok, Err}
 use Rattle.pair_io.specs.Causes.{Rose}
 use Rattle.s7_base.specs.Blocks.{Program}
 use Rattle.stl_lex.specs.declared.fault.LoadFault.{LoadFault}
@@ -7,7 +7,7 @@ use Rattle.block_loader.specs.Load.{meaning_of}
 use Rattle.trace_printer.specs.LoadText.{load_text}
 use Rattle.subsystem.specs.Part.{Part}
 use Rattle.pair_top.specs.declared.faults.Fault.{Fault}
-use Rattle.pair_top.specs.declared.faults.Fault.TheVariants.{Usage, FileFault, TooLong, SourceFault, ScriptFault, SinkFault, NoMemory, Differs}
+use Rattle.pair_top.specs.declared.faults.Fault.TheVariants.{Usage, FileFault, TooLong, SourceFault, SinkFault}
 use Rattle.pair_top.specs.Reading.{File, IsSteady, HasFailed, IsLoaded, IsLoadRefusal}
 use Rattle.pair_top.specs.Orders.{Order, play, load}
 use Rattle.pair_top.specs.Serving.{Written, Account, IsQuiet, IsUnplayed, IsWriting, PlayServed, AreSteady, IsDue, IsDone, Tells, TellsTooMuch, GivesWhatIsDue}

@@ -1,9 +1,8 @@
 //! Plays a pair by visits.
-ghost use Rattle.std.specs.Prelude.{◌≡◌, ◌≤◌, ◌+◌, ◌*◌, ◌||◌, ◌∷◌, [], ◌++◌, ℕ, List, true, if◌then◌else◌, replicate, is_some};
+ghost use Rattle.std.specs.Prelude.{◌≡◌, ◌≤◌, ◌+◌, ◌*◌, ◌∷◌, [], List, true, replicate, is_some};
 ghost use Rattle.s7_base.specs.declared.entry.Side.{Side};
 ghost use Rattle.s7_base.specs.declared.entry.Entry.{Entry};
 ghost use Rattle.s7_base.specs.Blocks.{Program};
-ghost use Rattle.subsystem.specs.Part.{IsOpen};
 ghost use Rattle.pair_core.specs.declared.own.Own.{Own};
 ghost use Rattle.pair_core.specs.World.{ended, play};
 ghost use Rattle.pair_core.specs.Finished.{MayEnd};

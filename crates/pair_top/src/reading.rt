@@ -1,7 +1,6 @@
 //! Reads the files of a command.
-ghost use Rattle.std.specs.Prelude.{◌≡◌, ◌≤◌, length, ℕ, List, IfOk, IfErr, OnOk};
+ghost use Rattle.std.specs.Prelude.{◌≡◌, ℕ, List, IfOk, IfErr, OnOk};
 ghost use Rattle.s7_base.specs.Blocks.{IsPlayable};
-ghost use Rattle.plant_script.specs.Plan.{IsPlan};
 ghost use Rattle.pair_top.specs.Reading.{file_of, WasRead, IsLoaded, IsAccepted, IsPlanned, IsReadRefusal, IsLoadRefusal, IsSourceRefusal, IsScriptRefusal, CountsOnly};
 
 use crate::Fault;

@@ -1,6 +1,5 @@
 //! The top call.
-ghost use Rattle.std.specs.Prelude.{◌≡◌, ◌≤◌, ◌↔◌, ℕ, List, true, false, Some, IsNone, IfOk, IfErr, OnOk};
-ghost use Rattle.std.specs.Io.KnownBytes.{Appends};
+ghost use Rattle.std.specs.Prelude.{◌≡◌, ◌≤◌, ◌↔◌, ℕ, List, true, Some, IsNone, IfOk, IfErr, OnOk};
 ghost use Rattle.s7_base.specs.Blocks.{IsPlayable};
 ghost use Rattle.subsystem.specs.Part.{IsNew, IsOpen};
 ghost use Rattle.pair_core.specs.declared.endings.Mode.{Mode};
@@ -10,7 +9,7 @@ ghost use Rattle.pair_core.specs.CpuTail.{tail_of};
 ghost use Rattle.pair_core.specs.Text.{HasTail, text};
 ghost use Rattle.trace_printer.specs.LoadText.{load_text};
 ghost use Rattle.pair_top.specs.Reading.{file_of, IsAccepted, IsPlanned};
-ghost use Rattle.pair_top.specs.Orders.{is_alone, visits_for, mode_for};
+ghost use Rattle.pair_top.specs.Orders.{is_alone, visits_for};
 ghost use Rattle.pair_top.specs.Playing.{AreAt, of_side};
 ghost use Rattle.pair_top.specs.Serving.{IsRefusal, AreSteady, IsFinished, ComesToTail, IsWriting, IsOutcome, PlayServed, IsUnplayed, setup_of, account_of, written_in, GivesWhatIsDue};
 ghost use Rattle.pair_top.specs.Loading.{LoadServed, IsSteadyUnless, LoadsWhatIsDue, Served, DueServed};
