@@ -49,10 +49,14 @@ turned (Some item) b rest = Goes (adds b item, rest)
 unfoldable pub body_turn : List ℕ → CodeKind → Section → Contents × List Token → Result (Turn (Contents × List Token) (Contents × List Token)) Fault
 body_turn text kind temps s = part_at text kind temps s.1 >>= λ p. Ok (turned p.0 s.0 p.1)
 
+-- the parts of a body up to its end word, and the rest, in at most so many turns
+abbrev pub parts_in : ℕ → List ℕ → CodeKind → Section → List Token → Result (Contents × List Token) Fault
+parts_in turns text kind temps tokens = repeated (end_fault text) (body_turn text kind temps) turns (empty, tokens)
+
 -- The parts of a body up to its end word, and the rest. A part has a token at least, so there are no more parts than
--- tokens.
+-- tokens: with any more turns the reading is the same, as `more_turns_read_the_same` says.
 abbrev pub parts_at : List ℕ → CodeKind → Section → List Token → Result (Contents × List Token) Fault
-parts_at text kind temps tokens = repeated (end_fault text) (body_turn text kind temps) (length tokens) (empty, tokens)
+parts_at text kind temps tokens = parts_in (length tokens) text kind temps tokens
 
 abbrev pub contents_view : Lists × Bor (List Token) → Contents × List Token
 contents_view x = (contents_of x.0, x.1.now)

@@ -6,6 +6,7 @@ mod constants;
 mod contents;
 mod forms;
 mod items;
+mod laws;
 mod locals;
 mod mnemonics;
 mod operands;
@@ -15,6 +16,7 @@ mod words;
 
 pub use contents::{Body, Jump, Label};
 pub use items::BodyStatement;
+pub use laws::more_turns_read_the_same;
 pub use reading::{ReadError, body};
 
 #[cfg(test)]
