@@ -1,17 +1,16 @@
 -- Operands leave no more tokens than there were.
-use Rattle.std.proofs.Common.{◌≡◌, ◌<◌, ◌≤◌, ◌==◌, ℕ, suc, List, [], ◌∷◌, length, drop, Bool, true, false, cond, arith}
-use Rattle.std.specs.Prelude.{Option, Some, None, Result, Ok, Err, ◌&&◌, nat_le, codes}
+use Rattle.std.proofs.Common.{◌<◌, ℕ, suc, List, [], ◌∷◌, length, drop, Bool, true, false, arith}
+use Rattle.std.specs.Prelude.{Option, Some, None, ◌&&◌, nat_le, codes}
 use Rattle.stl_lex.specs.declared.piece.TokenKind.{TokenKind}
 use Rattle.stl_lex.specs.declared.piece.TokenKind.TheVariants as kinds
 use Rattle.stl_lex.specs.declared.token.Token.{Token}
-use Rattle.stl_decl.specs.declared.fault.Fault.{Fault}
 use Rattle.stl_decl.specs.declared.constants.Constant.{Constant}
 use Rattle.stl_decl.specs.declared.types.Shape.{Shape}
 use Rattle.stl_decl.specs.declared.types.Variable.{Variable}
-use Rattle.stl_decl.specs.Steps.{◌>>=◌, spelling, upper, is_number_kind, is_word_kind, is_sign, is_word, sign_at, number_at, signed_at, integer_at, maybe_sign_at}
+use Rattle.stl_decl.specs.Steps.{spelling, upper, is_number_kind, is_word_kind, is_sign, is_word, sign_at, number_at, signed_at, integer_at, maybe_sign_at}
 use Rattle.stl_decl.specs.Types.{is_int}
 use Rattle.stl_decl.specs.Layout.{Section, variable_of}
-use Rattle.stl_decl.specs.Elements.{index_of, indexed_at, single_at, element_by, element_at}
+use Rattle.stl_decl.specs.Elements.{index_of, indexed_at, element_by, element_at}
 use Rattle.stl_decl.specs.Constants.{constant_of, begins_integer, integer_value_at, single_value, value_at}
 use Rattle.stl_reader.specs.declared.forms.OperandForm.{OperandForm}
 use Rattle.stl_reader.specs.declared.forms.OperandForm.TheVariants as forms
@@ -20,7 +19,7 @@ use Rattle.stl_reader.specs.declared.words.StatusSign.{StatusSign}
 use Rattle.stl_reader.specs.Forms.{accepts}
 use Rattle.stl_reader.specs.Words.{operand_word, status_sign}
 use Rattle.stl_reader.specs.Addresses.{taken, judged, is_data_number, part_number, part_sign, part_word, address, bit_operand, byte_operand}
-use Rattle.stl_reader.specs.Constants.{is_plus_or_minus, is_real, form_of, number_operand, unsigned_operand, single_operand, is_zero, zero_at, status_operand, signed_operand, sign_by, sign_operand}
+use Rattle.stl_reader.specs.Constants.{is_plus_or_minus, is_real, form_of, number_operand, unsigned_operand, single_operand, is_zero, zero_at, status_operand, signed_operand, sign_by}
 use Rattle.stl_reader.specs.Operands.{plain_operand, instance_operand, system_judged, system_operand, taken_operand, row_operand, data_number, is_data_word, data_word_by, data_word, takes_memory, opened_operand, unnamed_operand, label_name, label_operand, word_by, area_operand}
 use Rattle.stl_reader.specs.Locals.{local_form, suits_mnemonic, element_operand, variable_operand, named_local, local_operand}
 use Rattle.stl_reader.specs.Statements.{fixed_operand, kind_operand, operand_at, wants_operand, argument_at}

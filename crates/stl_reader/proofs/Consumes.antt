@@ -1,6 +1,6 @@
 -- Each part of a body takes a token at least.
 use Rattle.std.proofs.Common.{◌≡◌, ◌<◌, ◌≤◌, ◌==◌, ◌-◌, ℕ, zero, suc, List, [], ◌∷◌, length, drop, refl, subst, ap, sym, Bool, true, false, cond, arith}
-use Rattle.std.specs.Prelude.{Option, Some, None, Result, Ok, Err, ◌&&◌, is_some, codes}
+use Rattle.std.specs.Prelude.{Option, Some, None, Result, Ok, Err, ◌&&◌, codes}
 use Rattle.std.specs.Str.{bytes_eq}
 use Rattle.std.proofs.lemmas.List.{length-drop}
 use Rattle.s7_base.specs.declared.blocks.CodeKind.{CodeKind}

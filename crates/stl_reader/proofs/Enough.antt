@@ -1,4 +1,4 @@
--- With any more turns nothing else is read.
+-- With any more turns the reading is the same.
 use Rattle.std.proofs.Common.{◌≡◌, ◌≤◌, ◌<◌, ℕ, zero, suc, List, [], ◌∷◌, length, refl, ap, sym, arith}
 use Rattle.std.specs.Prelude.{Result, Ok, Err, Option, Some, None}
 use Rattle.s7_base.specs.declared.blocks.CodeKind.{CodeKind}

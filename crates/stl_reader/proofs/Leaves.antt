@@ -5,7 +5,7 @@ use Rattle.stl_lex.specs.declared.token.Token.{Token}
 use Rattle.stl_decl.specs.declared.fault.Fault.{Fault}
 use Rattle.stl_decl.specs.Steps.{◌>>=◌}
 
--- what is read leaves fewer tokens than this; a fault leaves none
+-- what is read leaves fewer tokens than this
 pub record Leaves {A : Type 0} (rest : A → List Token) (most : ℕ) (r : Result A Fault) : Type 0 where
   pub fewer : IfOk r (λ x. length (rest x) < most)
 

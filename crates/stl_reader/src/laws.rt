@@ -1,4 +1,4 @@
-//! A law of reading: the bound of its turns is never met.
+//! A law of reading: the bound of its turns decides nothing.
 ghost use Rattle.std.specs.Prelude.{◌≡◌, ◌≤◌, ℕ, List, length};
 ghost use Rattle.s7_base.specs.declared.blocks.CodeKind.{CodeKind};
 ghost use Rattle.stl_lex.specs.declared.token.Token.{Token};
