@@ -1,23 +1,18 @@
 -- The blocks of a source, as they are read.
-use Rattle.std.specs.Prelude.{◌≡◌, ℕ, List, [], ◌∷◌, ◌++◌, ◌+◌, ◌-◌, length, drop, min, nat_le, Result, Ok, Err, if◌then◌else◌, codes, Vec}
+use Rattle.std.specs.Prelude.{ℕ, List, [], ◌∷◌, ◌++◌, ◌+◌, ◌-◌, length, drop, min, nat_le, Result, Ok, if◌then◌else◌, Vec}
 use Rattle.std.specs.declared.alloc.Global.{Global}
-use Rattle.s7_base.specs.declared.blocks.CodeKind.{CodeKind}
 use Rattle.stl_lex.specs.declared.fault.LoadFault.{LoadFault}
 use Rattle.stl_lex.specs.declared.token.Token.{Token}
-use Rattle.stl_decl.specs.declared.fault.Fault.{Fault}
 use Rattle.stl_decl.specs.Faults.{told, told_of}
-use Rattle.stl_decl.specs.Steps.{end_fault, word_at}
+use Rattle.stl_decl.specs.Steps.{end_fault}
 use Rattle.stl_decl.specs.Repeat.{Turn, Ended, Goes}
 use Rattle.stl_decl.specs.Layout.{size_of}
-use Rattle.stl_decl.specs.Sections.{temporaries_at, structure_at, assignments_at}
 use Rattle.stl_reader.specs.Reading.{body_of}
 use Rattle.block_loader.specs.Told.{◌>>=◌, repeated}
 use Rattle.block_loader.specs.Fronts.{front_at}
 use Rattle.block_loader.specs.declared.blocks.Front.{Front}
 use Rattle.block_loader.specs.declared.blocks.Front.TheVariants as fronted
 use Rattle.block_loader.specs.declared.blocks.CodeFront.{CodeFront}
-use Rattle.block_loader.specs.declared.blocks.SourceCode.{SourceCode}
-use Rattle.block_loader.specs.declared.blocks.SourceData.{SourceData}
 use Rattle.block_loader.specs.declared.blocks.SourceBlock.{SourceBlock}
 use Rattle.block_loader.specs.declared.blocks.SourceBlock.TheVariants as blocks
 
@@ -53,9 +48,13 @@ blocks_turn text tokens s =
     if nat_le (length tokens) s.1 then Ok (Ended s.0)
     else (block_from text tokens s.1 >>= λ b. Ok (Goes (s.0 ++ b.0 ∷ [], b.1)))
 
--- { block }
+-- { block } in at most so many turns
+abbrev pub blocks_in : ℕ → List ℕ → List Token → Result (List SourceBlock) LoadFault
+blocks_in turns text tokens = repeated (told (end_fault text)) (blocks_turn text tokens) turns ([], 0)
+
+-- { block }: a block has a token at least, so with more turns than these the same is read
 unfoldable pub blocks_of : List ℕ → List Token → Result (List SourceBlock) LoadFault
-blocks_of text tokens = repeated (told (end_fault text)) (blocks_turn text tokens) (length tokens + 1) ([], 0)
+blocks_of text tokens = blocks_in (length tokens + 1) text tokens
 
 abbrev pub items_of : Vec SourceBlock Global → List SourceBlock
 items_of v = v.items
