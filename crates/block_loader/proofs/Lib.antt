@@ -12,3 +12,5 @@ pub mod Ordered
 pub mod Order
 pub mod Written
 pub mod Formed
+pub mod Fronts
+pub mod Enough

@@ -48,9 +48,13 @@ blocks_turn text tokens s =
     if nat_le (length tokens) s.1 then Ok (Ended s.0)
     else (block_from text tokens s.1 >>= λ b. Ok (Goes (s.0 ++ b.0 ∷ [], b.1)))
 
--- { block }
+-- { block } in at most so many turns
+abbrev pub blocks_in : ℕ → List ℕ → List Token → Result (List SourceBlock) LoadFault
+blocks_in turns text tokens = repeated (told (end_fault text)) (blocks_turn text tokens) turns ([], 0)
+
+-- { block }: a block has a token at least, so with more turns than these the same is read
 unfoldable pub blocks_of : List ℕ → List Token → Result (List SourceBlock) LoadFault
-blocks_of text tokens = repeated (told (end_fault text)) (blocks_turn text tokens) (length tokens + 1) ([], 0)
+blocks_of text tokens = blocks_in (length tokens + 1) text tokens
 
 abbrev pub items_of : Vec SourceBlock Global → List SourceBlock
 items_of v = v.items

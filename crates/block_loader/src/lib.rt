@@ -5,10 +5,12 @@ mod blocks;
 mod error;
 mod faults;
 mod heads;
+mod laws;
 mod loading;
 
 pub use error::LoadError;
 pub use faults::{SourceFault, least_fault_law};
+pub use laws::more_turns_read_the_same;
 pub use loading::load;
 pub use stl_lex::LoadFault;
 

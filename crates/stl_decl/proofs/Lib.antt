@@ -4,3 +4,6 @@ pub mod Names
 pub mod Turns
 pub mod Writes
 pub mod Laying
+pub mod Fewer
+pub mod Enough
+pub mod Loops

@@ -1,5 +1,5 @@
 -- Turns that are made until one of them ends.
-use Rattle.std.specs.Prelude.{ℕ, zero, suc, Result, Ok, Err}
+use Rattle.std.specs.Prelude.{◌≡◌, ◌<◌, ℕ, zero, suc, Result, Ok, Err}
 use Rattle.stl_decl.specs.declared.fault.Fault.{Fault}
 use Rattle.stl_decl.specs.Steps.{◌>>=◌}
 
@@ -12,3 +12,7 @@ pub data Turn (S A : Type 0) : Type 0 where
 unfoldable pub repeated : {S A : Type 0} → Fault → (S → Result (Turn S A) Fault) → ℕ → S → Result A Fault
 repeated late turn zero s = Err late
 repeated late turn (suc n) s = turn s >>= λ t. elim t [ Ended a ↦ Ok a | Goes next ↦ repeated late turn n next ]
+
+-- with any number of turns above this one the reading is the same
+abbrev pub IsSameAbove : {R : Type 0} → ℕ → (ℕ → R) → Type 0
+IsSameAbove least reading = (n m : ℕ) → least < n → least < m → reading n ≡ reading m

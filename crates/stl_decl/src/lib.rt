@@ -7,6 +7,7 @@ mod elements;
 mod fault;
 mod grammar;
 mod initials;
+mod laws;
 mod layout;
 mod sections;
 mod steps;
@@ -17,6 +18,7 @@ pub use constants::{Constant, ConstantForm, Value, begins_integer, constant_of, 
 pub use elements::element_at;
 pub use fault::{DeclError, Fault, FaultKind, StepError};
 pub use grammar::SectionKind;
+pub use laws::more_turns_read_the_same;
 pub use layout::{Declaration, FirstValue, Layout};
 pub use sections::{assignments_at, declarations, structure_at, temporaries_at};
 pub use steps::{
