@@ -110,6 +110,9 @@ impl Levels {
         requires fits { value < 2 ^ (8 * width) }
         requires holds { at_byte + width ≤ length (running_locals self.old) }
         ensures written { self.new ≡ with_last (written at_byte width value) self.old }
+
+        // What was written is read there.
+        ensures reads { value_of (slice_range (running_locals self.new) at_byte (at_byte + width)) ≡ value }
         ensures levels { length self.new ≡ length self.old }
     {
         let top = self.levels.len() - 1;
