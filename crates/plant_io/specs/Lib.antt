@@ -1,0 +1,2 @@
+pub mod PairValue
+pub mod PlantValue

@@ -1,0 +1,12 @@
+//! The inputs of a plant: the value of a byte at a moment, which modules are reached, and what two sides that read
+//! one module make of it.
+#![tactic(auto)]
+
+mod redundant;
+mod value;
+
+pub use redundant::Redundant;
+pub use value::{reachable, value_at};
+
+#[cfg(test)]
+mod tests;
