@@ -36,6 +36,15 @@ module _ {A₀ : Type 0} where
   at_inside (x ∷ xs) zero a e = omega arith
   at_inside (x ∷ xs) (suc j) a e = let r = at_inside xs j a e in omega arith
 
+module _ {T : Type 0} where
+  pub update_is_some : (o : Option T) (w : T) → is_some (update o w) ≡ is_some o
+  update_is_some None w = refl
+  update_is_some (Some x) w = refl
+
+  -- a view that has learned is that of the same sides
+  pub learned_side : (u u' : View T) (w : T) → ((s : Side) → last_known u' s ≡ update (last_known u s) w) → (s : Side) → is_some (last_known u' s) ≡ is_some (last_known u s)
+  learned_side u u' w knows s = ap is_some (knows s) ∙ update_is_some (last_known u s) w
+
 module _ {T E O : Type 0} (entries : T → List E) (own : T → Side → O) where
   abbrev St : Type 0
   St = State (Option T) (View T)
@@ -149,17 +158,13 @@ module _ {T E O : Type 0} (entries : T → List E) (own : T → Side → O) wher
       ))
       k.turn
 
-  renewed_has : (o : Option T) (w : T) → is_some (update o w) ≡ is_some o
-  renewed_has None w = refl
-  renewed_has (Some x) w = refl
+  giving_updates : (u : View T) (w : T) (s : Side) → last_known (after_giving u w) s ≡ update (last_known u s) w
+  giving_updates u w A = refl
+  giving_updates u w B = refl
 
-  gave_known : (u : View T) (w : T) (s : Side) → last_known (after_giving u w) s ≡ update (last_known u s) w
-  gave_known u w A = refl
-  gave_known u w B = refl
-
-  renewed_follows : (s : Side) (o : Option T) (w : T) → FollowsKnown entries own s (update o w) w
-  renewed_follows s None w = tt
-  renewed_follows s (Some x) w = (prefix_refl (entries w), refl)
+  update_follows : (s : Side) (o : Option T) (w : T) → FollowsKnown entries own s (update o w) w
+  update_follows s None w = tt
+  update_follows s (Some x) w = (prefix_refl (entries w), refl)
 
   -- what another view knows stays, where it has no part of the view that changes the value
   known_stays : (s : Side) (o : Option T) (v w : T) → IsPrefix (entries v) (entries w) → (is_some o ≡ true → own v s ≡ own w s) → FollowsKnown entries own s o v → FollowsKnown entries own s o w
@@ -192,9 +197,9 @@ module _ {T E O : Type 0} (entries : T → List E) (own : T → Side → O) wher
           value = w;
           word = length-set s.words 0 0 ∙ k.word;
           fits = each_set (λ _ y. Fits entries own y w) s.views id x
-              (λ t. subst (λ o. FollowsKnown entries own t o w) (sym (gave_known u w t)) (renewed_follows t (last_known u t) w))
+              (λ t. subst (λ o. FollowsKnown entries own t o w) (sym (giving_updates u w t)) (update_follows t (last_known u t) w))
               (λ j y ne e t. known_stays t (last_known y t) k.value w kept'.0 (λ hy. kept'.1 t (not_both (is_some (last_known u t)) (λ hu. ne (k.one t j id y u e at hy hu)))) (k.fits j y e t));
-          one = λ t. one_set t s.views id u x at (λ e. sym (renewed_has (last_known u t) w) ∙ (ap is_some (sym (gave_known u w t)) ∙ e)) (k.one t);
+          one = λ t. one_set t s.views id u x at (λ e. sym (update_is_some (last_known u t) w) ∙ (ap is_some (sym (giving_updates u w t)) ∙ e)) (k.one t);
           turn = inl record {
             word = get_or-set_same s.words 0 0 0 (omega (arith, k.word));
             home = set_here s.homes 0 (some (Some w)) (omega (arith, homes, one_slot));
@@ -364,24 +369,24 @@ module _ {S : Type 0} where
 
 -- what the holder may leave
 module _ {T E O : Type 0} (entries : T → List E) (own : T → Side → O) where
-  keeps_holding : (u : View T) (v w : T) → Keeps entries own u v w → Keeps entries own (after_taking u v) v w
-  keeps_holding u v w k = (k.0, elim [ A ↦ k.1 A | B ↦ k.1 B ])
+  keeps_taking : (u : View T) (v w : T) → Keeps entries own u v w → Keeps entries own (after_taking u v) v w
+  keeps_taking u v w k = (k.0, elim [ A ↦ k.1 A | B ↦ k.1 B ])
 
   pub keeps_held : (u u' : View T) (v w : T) → u' ≡ after_taking u v → Keeps entries own u v w → Keeps entries own u' v w
-  keeps_held u u' v w is k = subst (λ x. Keeps entries own x v w) (sym is) (keeps_holding u v w k)
+  keeps_held u u' v w is k = subst (λ x. Keeps entries own x v w) (sym is) (keeps_taking u v w k)
 
   pub keeps_same : (u u' : View T) (v w : T) → SameKnown u u' → Keeps entries own u v w → Keeps entries own u' v w
   keeps_same u u' v w same k = (k.0, λ s none. k.1 s (ap is_some (sym (same s)) ∙ none))
 
   pub learns : (u u' x : View T) (v w : T) → u' ≡ after_taking u v → x ≡ after_giving u' w → Learns u w x
   learns u u' x v w is now = let e : x ≡ after_giving u w = now ∙ ap (λ z. after_giving z w) is in
-      record { knows = λ s. ap (λ z. last_known z s) e ∙ gave_known entries own u w s; tries = ap (λ (z : View T). z.tries) e }
+      record { knows = λ s. ap (λ z. last_known z s) e ∙ giving_updates entries own u w s; tries = ap (λ (z : View T). z.tries) e }
 
-  renewed_either : (u : View T) (w : T) → (is_some u.a || is_some u.b) ≡ true → (is_some (after_giving u w).a || is_some (after_giving u w).b) ≡ true
-  renewed_either u w live = rw (renewed_has entries own u.a w, renewed_has entries own u.b w) live
+  update_either : (u : View T) (w : T) → (is_some u.a || is_some u.b) ≡ true → (is_some (after_giving u w).a || is_some (after_giving u w).b) ≡ true
+  update_either u w live = rw (update_is_some u.a w, update_is_some u.b w) live
 
-  pub gave_live : (u u' x : View T) (v w : T) → u' ≡ after_taking u v → x ≡ after_giving u' w → (is_some u.a || is_some u.b) ≡ true → (is_some x.a || is_some x.b) ≡ true
-  gave_live u u' x v w is now live = let e : x ≡ after_giving u w = now ∙ ap (λ z. after_giving z w) is in subst (λ (z : View T). (is_some z.a || is_some z.b) ≡ true) (sym e) (renewed_either u w live)
+  pub giving_live : (u u' x : View T) (v w : T) → u' ≡ after_taking u v → x ≡ after_giving u' w → (is_some u.a || is_some u.b) ≡ true → (is_some x.a || is_some x.b) ≡ true
+  giving_live u u' x v w is now live = let e : x ≡ after_giving u w = now ∙ ap (λ z. after_giving z w) is in subst (λ (z : View T). (is_some z.a || is_some z.b) ≡ true) (sym e) (update_either u w live)
 
   pub closes_both : (id : ℕ) (u x y : View T) (ws : List ℕ) (xs : List (Option T)) → u ≡ joined_view x y → is_some x.a ≡ true → is_some y.b ≡ true → Final (Seen (Kept entries own) id u) ws xs
       → (v : T) × (get_elem? xs 0 ≡ some (Some v)) × FollowsKnown entries own A x.a v × FollowsKnown entries own B y.b v

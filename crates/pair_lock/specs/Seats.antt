@@ -20,9 +20,11 @@ module _ {T : Type 0} where
   abbrev pub IsOf : TableId → Seat T → Type 0
   IsOf id seat = seat.seat.table_id ≡ id
 
-  -- the next seat is of the same lock
-  abbrev pub IsNext : Seat T → Seat T → Type 0
-  IsNext seat next = next.seat.table_id ≡ seat.seat.table_id
+  -- the next seat is of the same lock, and of the same side
+  pub record IsNext (seat next : Seat T) : Type 0 where
+    pub lock : next.seat.table_id ≡ seat.seat.table_id
+    pub a : is_some (view_of next).a ≡ is_some (view_of seat).a
+    pub b : is_some (view_of next).b ≡ is_some (view_of seat).b
 
   -- the seat is that of this side
   abbrev pub IsSeatOf : Side → Seat T → Type 0

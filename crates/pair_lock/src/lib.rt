@@ -8,3 +8,6 @@ mod view;
 pub use lock::Taken;
 pub use seat::{PairLock, Seat};
 pub use view::View;
+
+#[cfg(test)]
+mod tests;
