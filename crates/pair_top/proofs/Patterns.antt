@@ -8,7 +8,7 @@ use Rattle.std.specs.Str.{all_ascii_digits}
 use Rattle.std.specs.Char.{is_ascii_digit}
 use Rattle.std.proofs.lemmas.Bool.Decides.{nat_tests}
 use Rattle.s7_base.specs.declared.entry.Side.{Side}
-use Rattle.s7_base.specs.Instruction.{◌>>=◌}
+use Rattle.s7_base.specs.Optional.{◌>>=◌}
 use Rattle.pair_top.specs.declared.pattern.TheConstants.{MOST_TIMES, MOST_LETTERS, MOST_VISITS}
 use Rattle.pair_top.specs.Fields.{split_at, value_from}
 use Rattle.pair_top.proofs.Pieces.{split_takes}
