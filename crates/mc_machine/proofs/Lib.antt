@@ -5,3 +5,4 @@ pub mod Operands
 pub mod PlayedMeans
 pub mod Row
 pub mod Sound
+pub mod Then

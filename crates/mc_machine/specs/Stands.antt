@@ -18,7 +18,7 @@ use Rattle.mc_machine.specs.declared.places.Frame.{Frame}
 use Rattle.mc_machine.specs.declared.places.Note.{Note}
 use Rattle.mc_machine.specs.Areas.{with_registers}
 use Rattle.mc_machine.specs.CounterEffect.{counter_at}
-use Rattle.mc_machine.specs.Meaning.{State, End, Waits, Stopped, Rest, Move, Goes, Calls, Reaction, Again, Completes, Turn, Asks, Moves, Halts, Leaves, Ends, stop_request, resume, body, takes, stops_cpu, turn_of, never, std}
+use Rattle.mc_machine.specs.Meaning.{State, End, Waits, Stopped, Rest, Move, Goes, Calls, Reaction, Again, Completes, Turn, Asks, Moves, Halts, Leaves, Ends, stop_request, resume, body, takes, is_dated, stops_cpu, turn_of, never, std}
 
 -- where a machine is: its program, its place, the frames under it, what the statements see, the statements completed
 -- since the last answer, the moment of that answer, and the diagnostic entries that it keeps
@@ -179,6 +179,10 @@ GoesOn (Some request) answer = stops_cpu request.ask answer ≡ false
 
 abbrev pub CanGoOn : Option Running → Answer → Type 0
 CanGoOn machine answer = OfRunning machine (λ running. GoesOn running.waits answer)
+
+-- the answer, if it is Now, is that of this moment
+abbrev pub IsDated : ℕ → Answer → Type 0
+IsDated moment answer = IsTrue (is_dated moment answer)
 
 abbrev pub CanTake : Option Running → Answer → Type 0
 CanTake machine answer = OfRunning machine (λ running. IsTaken running.waits answer)

@@ -2,7 +2,7 @@
 ghost use Rattle.std.specs.Prelude.{◌≡◌, ◌≤◌, ℕ, ◌++◌, ◌∷◌, [], List, length, Option, Some, None, slice_get, false, IsTrue, OnOk, OnErr, ◌↔◌};
 ghost use Rattle.std.specs.Option.{option_map};
 ghost use Rattle.s7_base.specs.Blocks.{Program, IsPlayable};
-ghost use Rattle.mc_machine.specs.Stands.{IsIdle, IsRunning, CanAsk, CanTake, CanGoOn, IsAsked, HasStopped, WaitsAt, Stands, CpuWaits, CpuStopped, area_bytes, OfRunning, HasSizes, byte_of, counter_of, notes_of};
+ghost use Rattle.mc_machine.specs.Stands.{IsIdle, IsRunning, CanAsk, CanTake, IsDated, CanGoOn, IsAsked, HasStopped, WaitsAt, Stands, CpuWaits, CpuStopped, area_bytes, OfRunning, HasSizes, byte_of, counter_of, notes_of};
 
 use crate::engine::Engine;
 use crate::{Memory, Place};
@@ -88,8 +88,8 @@ impl Machine {
         requires { CanTake self.old answer.now }
         ensures running { IsRunning self.new }
         ensures going { CanGoOn self.old answer.now → CanAsk self.new }
-        // it stands for the CPU after this answer too
-        ensures stands { (program : Program) (given : List Answer) → moment ≡ length given → Stands program given self.old
+        // it stands for the CPU after this answer too; an answer Now is to be that of this moment
+        ensures stands { (program : Program) (given : List Answer) → moment ≡ length given → IsDated moment answer.now → Stands program given self.old
             → Stands program (given ++ answer.now ∷ []) self.new }
     {
         if let Some(engine) = &mut self.engine {
