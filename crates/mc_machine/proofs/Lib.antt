@@ -1,3 +1,4 @@
+pub mod AreaBytes
 pub mod Asked
 pub mod Enough
 pub mod Keeps
