@@ -63,8 +63,8 @@ account_in p w = account_of w.log.entries w.log.shown (ended_by p w)
 pub record IsFinished (p : Setup) (w : World) (account : Account) (a b : Part) : Type 0 where
   pub visited : account ≡ account_in p w
   pub run : IsRun p.program p.plan p.solo account.entries account.shown account.ended
-  pub first : IsSideOf p.program p.plan p.solo account.entries account.ended A a
-  pub second : IsSideOf p.program p.plan p.solo account.entries account.ended B b
+  pub first : IsSideOf p.program p.plan p.solo account.entries account.shown account.ended A a
+  pub second : IsSideOf p.program p.plan p.solo account.entries account.shown account.ended B b
 
 -- a play of a program and a plan: the world is that of the visits which were ordered
 abbrev pub IsPlay : Manner → Program → Plan → Account → Part → Part → Type 0
