@@ -63,13 +63,15 @@ fn answers_fit_as_the_tables_say(rt: HostRuntime) {
 }
 
 fn main_block(alloc: Global, temp: u16, bit: u8) -> Result<Vec<CodeBlock>, Fail> {
-    let instruction = BitInstruction {
-        operation: BitOperation::Set,
-        area: BitArea::M,
-        at_byte: 1023,
+    // S M 1023.bit
+    let set = Statement {
+        op: 15,
+        area: 3,
         bit,
+        db: 0,
+        value: 1023,
     };
-    let statements = vec![in alloc; instruction.statement()]?;
+    let statements = vec![in alloc; set]?;
     let main = CodeBlock::new(CodeKind::Ob, 1, temp, statements);
     Ok(vec![in alloc; main]?)
 }
@@ -192,12 +194,15 @@ fn statements_are_of_the_language_or_not(rt: HostRuntime) {
         };
         assert_eq!(rt; stored.is_of_language(20), is_statement, "{stored:?}");
     }
+    assert_eq!(rt; instruction_set().len(), 128);
     let row = instruction_row(101).expect(&rt, "there is an operation 101");
     let mnemonic = row.mnemonic;
     assert_eq!(rt; row.operation, Operation::Branch(Branch::Loop));
     assert_eq!(rt; mnemonic, *b"LOOP\0");
     assert_eq!(rt; row.operation.number(), 101);
     assert_eq!(rt; instruction_row(128), None);
+    assert_eq!(rt; [is_data_number(0), is_data_number(255)], [false, true]);
+    assert_eq!(rt; DiagCode::default(), DiagCode::Start);
 }
 
 fn jump(op: u16, value: u32) -> Statement {
@@ -300,6 +305,11 @@ fn blocks_together_keep_their_limits(rt: HostRuntime) -> Result<(), Fail> {
     let alloc = rt.alloc();
     let codes = Vec::new(alloc);
     assert!(rt; Blocks::of(codes, Vec::new(alloc)).is_none(), "no OB1");
+    let codes = functions(alloc, 1, 0)?;
+    let full = Blocks::of(codes, data_blocks(alloc, 254, 0, 2)?).expect(&rt, "256 blocks");
+    let copied = full.copy(alloc).expect(&rt, "there is memory");
+    let counts = (copied.codes().len(), copied.data_blocks().len());
+    assert_eq!(rt; counts, (2, 254));
     // 12,000 statements and 12,004; 256 blocks and 257
     for (count, each, last, is_fine) in [
         (3, 3999, 0, true),

@@ -28,10 +28,6 @@ taken text mnemonic form t = if accepts mnemonic form then Ok tt else Err (refus
 abbrev pub judged : Bool → Token → Result (Unit {0}) Fault
 judged holds t = if holds then Ok tt else Err (fault_at BadOperand t)
 
--- data blocks have the numbers 1 to 255
-abbrev pub is_data_number : ℕ → Bool
-is_data_number number = nat_le 1 number && nat_le number 255
-
 -- a number
 abbrev pub part_number : List ℕ → List ℕ → List Token → Result (ℕ × Token × List Token) Fault
 part_number text mnemonic [] = Err (end_fault text)

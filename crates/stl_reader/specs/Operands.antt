@@ -17,7 +17,8 @@ use Rattle.stl_reader.specs.declared.words.OperandWord.{OperandWord}
 use Rattle.stl_reader.specs.declared.addresses.Operand.{Operand}
 use Rattle.stl_reader.specs.Forms.{accepts}
 use Rattle.stl_reader.specs.Words.{operand_word}
-use Rattle.stl_reader.specs.Addresses.{no_name, refused, taken, judged, is_data_number, part_sign, part_word, address, word_operand, bit_operand, byte_operand}
+use Rattle.s7_base.specs.Operands.{is_data_number}
+use Rattle.stl_reader.specs.Addresses.{no_name, refused, taken, judged, part_sign, part_word, address, word_operand, bit_operand, byte_operand}
 
 -- what stands behind a word of the table, by its form
 abbrev pub plain_operand : OperandForm → List ℕ → List ℕ → OperandWord → Token → List Token → Result (Operand × Token × List Token) Fault

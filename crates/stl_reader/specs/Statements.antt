@@ -5,7 +5,7 @@ use Rattle.std.specs.List.{position}
 use Rattle.std.specs.Str.{bytes_eq}
 use Rattle.s7_base.specs.declared.operands.OperandArea.TheVariants as areas
 use Rattle.s7_base.specs.declared.statement.Statement.{Statement}
-use Rattle.s7_base.specs.declared.table.TheConstants.{INSTRUCTIONS}
+use Rattle.s7_base.specs.InstructionSet.{instruction_set}
 use Rattle.s7_base.specs.Operands.{allows, area_number, is_in}
 use Rattle.stl_lex.specs.Bytes.{spells}
 use Rattle.stl_lex.specs.declared.piece.TokenKind.{TokenKind}
@@ -105,7 +105,7 @@ stored op o = record { op = op; area = area_number o.area; bit = o.bit; db = o.d
 -- the first operation with the mnemonic that allows the operand, by its place in the instruction set
 unfoldable pub operation_of : List ℕ → ℕ → Operand → Option ℕ
 operation_of mnemonic locals o =
-    position (λ row. bytes_eq row.mnemonic mnemonic && allows row.operand locals (stored 0 o)) INSTRUCTIONS
+    position (λ row. bytes_eq row.mnemonic mnemonic && allows row.operand locals (stored 0 o)) instruction_set
 
 abbrev pub operation_by : Option ℕ → Token → Result ℕ Fault
 operation_by (Some number) first = Ok number

@@ -162,6 +162,13 @@ fn a_timer_goes_by_the_moments_answered(rt: HostRuntime) -> Result<(), Fail> {
     assert_eq!(rt; timed(&rt, &mut machine, 1, 149), (Some(1), Some(0)));
     assert_eq!(rt; timed(&rt, &mut machine, 0, 160), (Some(0), Some(0)));
     assert_eq!(rt; machine.image_byte(Area::M, 3), Some(0));
+    // T 255 is an SD, started at 100
+    let bytes = [(6120, Some(2)), (6129, Some(100)), (6144, None)];
+    for (at_byte, byte) in bytes {
+        assert_eq!(rt; machine.image_byte(Area::Timers, at_byte), byte);
+    }
+    assert_eq!(rt; machine.image_byte(Area::Counters, 1023), Some(0));
+    assert_eq!(rt; machine.image_byte(Area::Counters, 1024), None);
     Ok(())
 }
 
