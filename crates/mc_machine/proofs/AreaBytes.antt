@@ -1,8 +1,7 @@
 -- An area whose bytes are those of its parts, all of one width.
-use Rattle.std.proofs.Common.{◌≡◌, ℕ, zero, suc, ◌+◌, ◌*◌, ◌/◌, ◌%◌, ◌<◌, ◌≤◌, List, [], ◌∷◌, ◌++◌, length, Option, Some, None, refl, sym, ap, ◌∙◌, subst, arith, slice_get, zero-add}
+use Rattle.std.proofs.Common.{◌≡◌, ℕ, zero, suc, ◌+◌, ◌*◌, ◌/◌, ◌%◌, ◌<◌, List, [], ◌∷◌, ◌++◌, length, Some, None, refl, ap, ◌∙◌, arith, slice_get, zero-add}
 use Rattle.std.specs.Prelude.{flat_map}
 use Rattle.std.specs.Option.{option_and_then}
-use Rattle.std.specs.Int.{w16, w64, to_be_bytes}
 use Rattle.timers.specs.State.{TimerState}
 use Rattle.timers.specs.Bytes as timer_form
 use Rattle.counters.specs.State.{CounterState}

@@ -200,19 +200,28 @@ fn counter_in(counters: &[Counter], n: usize) -> Option<Counter>
     counters.get(n).copied()
 }
 
+/// Shows how many bytes, timers and counters there are.
+fn show_sizes(memory: &Memory)
+    ensures { HasSizes memory.now }
+{
+    let _inputs: &[u8] = &memory.inputs;
+    let _outputs: &[u8] = &memory.outputs;
+    let _flags: &[u8] = &memory.flags;
+    let _timers: &[Timer] = &memory.timers;
+    let _counters: &[Counter] = &memory.counters;
+}
+
 /// The byte of an area.
 fn area_byte(memory: &Memory, area: Area, at_byte: u16) -> Option<u8>
     ensures byte { result ≡ slice_get (area_bytes memory.now area) at_byte }
     ensures sizes { HasSizes memory.now }
 {
-    let inputs: &[u8] = &memory.inputs;
-    let outputs: &[u8] = &memory.outputs;
-    let flags: &[u8] = &memory.flags;
+    show_sizes(memory);
     let at = at_byte as usize;
     match area {
-        Area::I => inputs.get(at).copied(),
-        Area::Q => outputs.get(at).copied(),
-        Area::M => flags.get(at).copied(),
+        Area::I => byte_at(&memory.inputs, at),
+        Area::Q => byte_at(&memory.outputs, at),
+        Area::M => byte_at(&memory.flags, at),
         Area::Timers => timer_byte(&memory.timers, at),
         Area::Counters => counter_byte(&memory.counters, at),
         Area::Db(_) | Area::Registers => None,
