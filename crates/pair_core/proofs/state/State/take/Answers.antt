@@ -9,16 +9,16 @@ use Rattle.pair_core.proofs.state.State.take.Goals as goal
 pub ask-requires : goal.ask-requires
 ask-requires c =
     let own = part_in c.args.self.now.parts c.args.side in
-    let here = rw (ap (λ o. o.place) c.get-own.ensures) at c.entry.ensures in
-    let m = met (setup_of c.args.self.now) (log_of c.args.self.now) own.place c.entry.result.now c.requires.good here in
+    let here = rw (ap (λ o. o.place) c.get-own.ensures) at c.entry_at-entry.ensures in
+    let m = met (setup_of c.args.self.now) (log_of c.args.self.now) own.place c.entry_at-entry.result c.requires.good here in
     can_ask_at c.args.self.now.program own c.args.self.now.log.entries c.args.sub.now c.requires.at c.requires.can.0 m.going
 
 pub take-requires-clause-takes : goal.take-requires-clause-takes
 take-requires-clause-takes c =
     let own = part_in c.args.self.now.parts c.args.side in
-    let here = rw (ap (λ o. o.place) c.get-own.ensures) at c.entry.ensures in
-    let m = met (setup_of c.args.self.now) (log_of c.args.self.now) own.place c.entry.result.now c.requires.good here in
-    takes_next c.args.self.now.program own c.args.self.now.log.entries c.args.sub.now c.ask.new.self c.entry.result.now.request c.ask.result c.entry.result.now.answer
+    let here = rw (ap (λ o. o.place) c.get-own.ensures) at c.entry_at-entry.ensures in
+    let m = met (setup_of c.args.self.now) (log_of c.args.self.now) own.place c.entry_at-entry.result c.requires.good here in
+    takes_next c.args.self.now.program own c.args.self.now.log.entries c.args.sub.now c.ask.new.self c.entry_at-entry.result.request c.ask.result c.entry_at-entry.result.answer
     c.requires.at c.requires.can.0 c.ask.ensures.waits (c.ask.ensures.next c.args.self.now.program _) m.asked m.fits
 
 pub returns-clause-at : goal.returns-clause-at
@@ -26,8 +26,8 @@ returns-clause-at c =
     let self = c.args.self.now in
     let own = part_in self.parts c.args.side in
     let es = self.log.entries in
-    let e = c.entry.result.now in
-    let here = rw (ap (λ o. o.place) c.get-own.ensures) at c.entry.ensures in
+    let e = c.entry_at-entry.result in
+    let here = rw (ap (λ o. o.place) c.get-own.ensures) at c.entry_at-entry.ensures in
     let m = met (setup_of self) (log_of self) own.place e c.requires.good here in
     let alive = c.requires.can.0 in
     let given = answers_of (take own.place es) in
