@@ -1,4 +1,4 @@
--- The rule of the turn: what is true of a lock between any two steps, and what the steps on the turn tell.
+-- The rule of the turn: what is true of a lock between any two steps, and what a seat learns by a step on the turn.
 use Rattle.std.specs.Prelude.{◌≡◌, ◌≢◌, ℕ, true, false, ◌⊎◌, List, [], ◌∷◌, length, slice_index, Option, Some, None, is_some}
 use mathlib.Core.Option.{none, some}
 use mathlib.Core.List.{IsPrefix}
@@ -20,7 +20,8 @@ module _ {T : Type 0} where
     FollowsKnown s None v = Unit {0}
     FollowsKnown s (Some x) v = Follows s x v
 
-    -- what the view knows is true of the value v: what it has seen is a prefix of the entries, and its side's own part is as it knew it
+    -- what the view knows is true of the value v: what it has seen is a prefix of the entries, and its side's own part is
+    -- as it knew it
     abbrev pub Fits : View T → T → Type 0
     Fits u v = (s : Side) → FollowsKnown s (last_known u s) v
 
@@ -46,15 +47,18 @@ module _ {T : Type 0} where
       pub live : is_some (last_known view side) ≡ true
       pub others : (j : ℕ) (u : View T) → j ≢ holder → get_elem? s.views j ≡ some u → u.took ≡ None
 
-    -- the rule: what each view knows is true of the value at home, or of the value as it was taken; of each side there is one view at most; and the turn is free, or one view holds it
+    -- the rule: what each view knows is true of the value at home, or of the value as it was taken; of each side there is
+    -- one view at most; and the turn is free, or one view holds it
     pub record Kept (s : State (Option T) (View T)) : Type 0 where
       pub value : T
       pub word : length s.words ≡ 1
       pub fits : (j : ℕ) (u : View T) → get_elem? s.views j ≡ some u → Fits u value
-      pub one : (s' : Side) (i j : ℕ) (u v : View T) → get_elem? s.views i ≡ some u → get_elem? s.views j ≡ some v → is_some (last_known u s') ≡ true → is_some (last_known v s') ≡ true → i ≡ j
+      pub one : (s' : Side) (i j : ℕ) (u v : View T) → get_elem? s.views i ≡ some u → get_elem? s.views j ≡ some v
+          → is_some (last_known u s') ≡ true → is_some (last_known v s') ≡ true → i ≡ j
       pub turn : IsFree s value ⊎ IsHeld s value
 
-    -- the step that takes the turn: where it found 0, it has the value, of which all that it knew is true; else one more try is counted
+    -- the step that takes the turn: where it found 0, it has the value, of which all that it knew is true; else one more
+    -- try is counted
     abbrev pub Takes : Step (Option T) → Me (Option T) (View T) → ℕ → Me (Option T) (View T) → Type 0
     Takes st m r m' =
         (r ≡ 0 → (v : T) × Fits m.0 v × (m' ≡ (after_taking m.0 v, (0, Some v) ∷ [])))

@@ -42,7 +42,8 @@ impl<T: History> PairLock<T> {
     /// Makes a lock of this value, with the seat of side A and the seat of side B. Both know the value. Where memory runs
     /// out the value comes back.
     pub fn make(alloc: Global, value: T) -> Result<(PairLock<T>, Seat<T>, Seat<T>), (NoMemory, T)>
-        ensures made { IfOk result (λ r. IsOf (lock_id r.0) r.1 × IsOf (lock_id r.0) r.2 × Knows A r.1 value × Knows B r.2 value) }
+        ensures made { IfOk result (λ r. IsOf (lock_id r.0) r.1 × IsOf (lock_id r.0) r.2
+            × Knows A r.1 value × Knows B r.2 value) }
         ensures back { IfErr result (λ r. r.1 ≡ value) }
     {
         let mut slots = match Vec::with_capacity(alloc, 1) {
@@ -73,9 +74,11 @@ impl<T: History> PairLock<T> {
     // Takes the turn, and the value with it, where the turn is free. Else one more try is counted.
     fn take(&self, seat: &mut atomic_table::Seat<Option<T>, View<T>>) -> Option<T>
         requires lock { seat.old.table_id ≡ lock_id self.now }
-        requires idle { (seat.old.me.1 ≡ []) × (seat.old.me.0.took ≡ None) × ((is_some seat.old.me.0.a || is_some seat.old.me.0.b) ≡ true) }
+        requires idle { (seat.old.me.1 ≡ []) × (seat.old.me.0.took ≡ None)
+            × ((is_some seat.old.me.0.a || is_some seat.old.me.0.b) ≡ true) }
         ensures lock { seat.new.table_id ≡ seat.old.table_id }
-        ensures free { IfSome result (λ v. Fits T.entries T.own seat.old.me.0 v × (seat.new.me ≡ (after_taking seat.old.me.0 v, (0, None) ∷ []))) }
+        ensures free { IfSome result (λ v. Fits T.entries T.own seat.old.me.0 v
+            × (seat.new.me ≡ (after_taking seat.old.me.0 v, (0, None) ∷ []))) }
         ensures held { IfNone result (seat.new.me ≡ (after_try seat.old.me.0, [])) }
     {
         if self.table.shared.compare_exchange::<Take>(seat, 0, 0, 1) != 0 {
@@ -87,7 +90,8 @@ impl<T: History> PairLock<T> {
     // Puts the value back, and then gives the turn.
     fn give(&self, seat: &mut atomic_table::Seat<Option<T>, View<T>>, value: T)
         requires lock { seat.old.table_id ≡ lock_id self.now }
-        requires out { (v : T) × (seat.old.me.0.took ≡ Some v) × (seat.old.me.1 ≡ (0, None) ∷ []) × Keeps T.entries T.own seat.old.me.0 v value }
+        requires out { (v : T) × (seat.old.me.0.took ≡ Some v) × (seat.old.me.1 ≡ (0, None) ∷ [])
+            × Keeps T.entries T.own seat.old.me.0 v value }
         ensures lock { seat.new.table_id ≡ seat.old.table_id }
         ensures given { seat.new.me ≡ (after_giving seat.old.me.0 value, []) }
     {
@@ -108,8 +112,10 @@ impl<T: History> PairLock<T> {
     ) -> Result<(Seat<T>, R), Taken<T, F>>
         requires lock { IsOf (lock_id self.now) seat }
         requires call { MayMeet T.entries T.own F.FnOnce f (view_of seat) }
-        ensures met { IfOk result (λ m. IsNext seat m.0 × (v : T) × (w : T) × Met T.entries T.own F.FnOnce f (view_of seat) v m.1 w × Learns (view_of seat) w (view_of m.0)) }
-        ensures taken { IfErr result (λ t. IsNext seat t.seat × (t.f ≡ f) × (view_of t.seat ≡ after_try (view_of seat))) }
+        ensures met { IfOk result (λ m. IsNext seat m.0 × (v : T) × (w : T)
+            × Met T.entries T.own F.FnOnce f (view_of seat) v m.1 w × Learns (view_of seat) w (view_of m.0)) }
+        ensures taken { IfErr result (λ t. IsNext seat t.seat × (t.f ≡ f)
+            × (view_of t.seat ≡ after_try (view_of seat))) }
     {
         let Seat { seat: mut inner } = seat;
         match self.take(&mut inner) {
@@ -135,7 +141,9 @@ impl<T: History> PairLock<T> {
     ) -> (Seat<T>, R)
         requires lock { IsOf (lock_id self.now) seat }
         requires call { MayMeet T.entries T.own F.FnOnce f (view_of seat) }
-        ensures met { IsNext seat result.0 × (v : T) × (w : T) × Met T.entries T.own F.FnOnce f (view_of seat) v result.1 w × LearnsLater (view_of seat) w (view_of result.0) }
+        ensures met { IsNext seat result.0 × (v : T) × (w : T)
+            × Met T.entries T.own F.FnOnce f (view_of seat) v result.1 w
+            × LearnsLater (view_of seat) w (view_of result.0) }
     {
         let mut seat = seat;
         let mut f = f;
@@ -167,7 +175,9 @@ impl<T: History> PairLock<T> {
     ) -> (Seat<T>, R)
         requires lock { IsOf (lock_id self.now) seat }
         requires call { MayMeetWith T.entries T.own F.FnOnce f (view_of seat) state.old }
-        ensures met { IsNext seat result.0 × (v : T) × (w : T) × MetWith T.entries T.own F.FnOnce f (view_of seat) v state.old result.1 w state.new × LearnsLater (view_of seat) w (view_of result.0) }
+        ensures met { IsNext seat result.0 × (v : T) × (w : T)
+            × MetWith T.entries T.own F.FnOnce f (view_of seat) v state.old result.1 w state.new
+            × LearnsLater (view_of seat) w (view_of result.0) }
     {
         let Seat { seat: mut inner } = seat;
         for _ in rt.forever() {
@@ -186,7 +196,8 @@ impl<T: History> PairLock<T> {
     pub fn close(self, a: Seat<T>, b: Seat<T>) -> T
         requires lock { IsOf (lock_id self) a × IsOf (lock_id self) b }
         requires sides { IsSeatOf A a × IsSeatOf B b }
-        ensures { FollowsKnown T.entries T.own A (view_of a).a result × FollowsKnown T.entries T.own B (view_of b).b result }
+        ensures { FollowsKnown T.entries T.own A (view_of a).a result
+            × FollowsKnown T.entries T.own B (view_of b).b result }
     {
         let Seat { seat: mut first } = a;
         let Seat { seat: second } = b;

@@ -1,4 +1,4 @@
-//! The rule under which two seats take a value in turns: what a seat knows, and what each step tells it.
+//! The rule under which two seats take a value in turns: what a seat knows, and what it learns by each step.
 
 use atomic_table::{Join, Play, Split, TableRule};
 use event_record::History;
@@ -16,7 +16,8 @@ pub struct View<T> {
     pub tries: u64,
 }
 
-/// One word is the turn, 0 where it is free and 1 where a seat holds it. One slot is the value's place.
+/// The rule of the turn. A lock has one word, the turn: 0 where it is free, 1 where a seat holds it. It has one slot, the
+/// home of the value.
 pub struct TurnRule;
 
 impl<T: History> TableRule<Option<T>, View<T>, Snapshot<T>> for TurnRule {
