@@ -118,3 +118,11 @@ fn a_source_in_the_style_of_an_export(rt: HostRuntime) -> Result<(), Fail> {
     );
     Ok(())
 }
+
+#[test]
+fn errors_tell_line_and_kind(rt: HostRuntime) -> Result<(), Fail> {
+    let fault = LoadError::Fault(stl_lex::LoadFault { kind: 7, line: 12 });
+    let text = format!(in rt.alloc(); "{fault}, {}", LoadError::NoMemory)?;
+    assert_eq!(rt; text.as_str(), "line 12: fault 7, out of memory");
+    Ok(())
+}

@@ -260,3 +260,11 @@ fn constants(rt: HostRuntime) -> Result<(), Fail> {
     }
     Ok(())
 }
+
+#[test]
+fn errors_tell_line_and_kind(rt: HostRuntime) -> Result<(), Fail> {
+    let fault = DeclError::Fault(LoadFault { kind: 7, line: 12 });
+    let text = format!(in rt.alloc(); "{fault}, {}", DeclError::NoMemory)?;
+    assert_eq!(rt; text.as_str(), "line 12: fault 7, out of memory");
+    Ok(())
+}

@@ -8,7 +8,7 @@ use Rattle.stl_decl.specs.declared.fault.Fault.{Fault}
 use Rattle.stl_decl.specs.Steps.{spelling, end_fault, fault_at}
 use Rattle.s7_base.specs.declared.table.InstructionRow.{InstructionRow}
 use Rattle.s7_base.specs.InstructionSet.{instruction_set}
-use Rattle.stl_reader.specs.declared.mnemonics.TheConstants.{REFUSED}
+use Rattle.stl_reader.specs.RefusedInstructions.{refused_instructions}
 use Rattle.stl_reader.specs.declared.mnemonics.RefusedInstruction.{RefusedInstruction}
 use Rattle.stl_reader.specs.declared.mnemonics.Meaning.{Meaning}
 use Rattle.stl_reader.specs.declared.mnemonics.Meaning.TheVariants.{Mnemonic, Refused}
@@ -19,7 +19,7 @@ row_named word = find (λ row. spells (letters_of row.mnemonic) word) instructio
 
 -- the row of an instruction of real numbers, or of one that is out of scope
 unfoldable pub refused_named : List ℕ → Option RefusedInstruction
-refused_named word = find (λ row. spells (letters_of row.mnemonic) word) REFUSED
+refused_named word = find (λ row. spells (letters_of row.mnemonic) word) refused_instructions
 
 abbrev pub refusal_by : Option RefusedInstruction → Option Meaning
 refusal_by (Some row) = Some (Refused row.fault)

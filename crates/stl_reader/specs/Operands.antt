@@ -1,12 +1,11 @@
 -- Operands that begin with a word: areas, blocks, status operands and labels.
-use Rattle.std.specs.Prelude.{ℕ, List, [], ◌∷◌, length, drop, ◌==◌, ◌&&◌, ◌||◌, not, min, Bool, true, false, Option, Some, None, Result, Ok, Err, if◌then◌else◌, codes}
+use Rattle.std.specs.Prelude.{ℕ, List, [], ◌∷◌, length, drop, ◌==◌, ◌&&◌, ◌||◌, not, ◌^◌, min, Bool, true, false, Option, Some, None, Result, Ok, Err, if◌then◌else◌, codes}
 use Rattle.std.specs.List.{list_all}
 use Rattle.std.specs.Char.{is_ascii_digit, to_ascii_uppercase}
 use Rattle.s7_base.specs.declared.operands.OperandArea.{OperandArea}
 use Rattle.s7_base.specs.declared.operands.OperandArea.TheVariants as areas
 use Rattle.stl_lex.specs.Bytes.{begins}
 use Rattle.stl_lex.specs.Numerals.{value_of}
-use Rattle.stl_lex.specs.declared.numerals.TheConstants.{CEILING}
 use Rattle.stl_lex.specs.declared.token.Token.{Token}
 use Rattle.stl_decl.specs.declared.fault.Fault.{Fault}
 use Rattle.stl_decl.specs.declared.fault.FaultKind.TheVariants.{BadOperand, OutOfScope}
@@ -71,7 +70,7 @@ is_digits word = not (length word == 0) && list_all is_ascii_digit word
 -- DB and digits: the data block of this number
 abbrev pub data_number : List ℕ → Option ℕ
 data_number word =
-    if begins (codes "DB") word && is_digits (drop 2 word) then Some (min (min (value_of 10 (drop 2 word)) CEILING) 4294967295)
+    if begins (codes "DB") word && is_digits (drop 2 word) then Some (min (min (value_of 10 (drop 2 word)) (2 ^ 32)) 4294967295)
     else None
 
 abbrev pub is_data_area : OperandArea → Bool

@@ -24,8 +24,7 @@ macro_rules! refused {
     };
 }
 
-/// The instructions of real numbers, and those on address registers and the like.
-pub const REFUSED: [RefusedInstruction; 36] = refused! {
+const REFUSED: [RefusedInstruction; 36] = refused! {
     b"+R\0\0\0" RealInstruction;
     b"-R\0\0\0" RealInstruction;
     b"*R\0\0\0" RealInstruction;

@@ -6,8 +6,8 @@ ghost use Rattle.stl_decl.specs.Steps.{Gives, seen, spelling};
 ghost use Rattle.stl_reader.specs.Operands.{plain_operand, instance_operand, system_judged, system_operand, row_operand, is_digits, data_number, is_data_word, data_word, takes_memory, opened_operand, unnamed_operand, label_name, label_operand, area_operand};
 
 use crate::addresses::{
-    NO_NAME, Operand, address, bit_operand, byte_operand, judged, part_sign,
-    part_word, refused, taken, word_operand,
+    NO_NAME, Operand, address, bit_operand, byte_operand, judged, part_sign, part_word, refused,
+    taken, word_operand,
 };
 use crate::forms::{OperandForm, accepts};
 use crate::words::{OperandWord, operand_word};

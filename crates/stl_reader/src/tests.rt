@@ -714,3 +714,11 @@ fn named_locals(rt: HostRuntime) -> Result<(), Fail> {
     }
     Ok(())
 }
+
+#[test]
+fn errors_tell_line_and_kind(rt: HostRuntime) -> Result<(), Fail> {
+    let fault = ReadError::Fault(stl_lex::LoadFault { kind: 7, line: 12 });
+    let text = format!(in rt.alloc(); "{fault}, {}", ReadError::NoMemory)?;
+    assert_eq!(rt; text.as_str(), "line 12: fault 7, out of memory");
+    Ok(())
+}
