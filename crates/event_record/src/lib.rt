@@ -6,6 +6,3 @@ mod history;
 
 pub use entries::Record;
 pub use history::History;
-
-#[cfg(test)]
-mod tests;

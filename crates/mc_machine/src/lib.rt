@@ -27,6 +27,3 @@ pub use laws::{
     a_block_runs_by_itself, a_place_means_its_turn, played_statements_mean_instructions,
 };
 pub use places::{Frame, Level, Mode, Note, Place};
-
-#[cfg(test)]
-mod tests;

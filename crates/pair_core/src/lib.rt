@@ -20,6 +20,3 @@ pub use laws::{asking_stays, begins, one_begins};
 pub use pair::Pair;
 pub use showings::Shown;
 pub use turns::{Reason, Turn};
-
-#[cfg(test)]
-mod tests;

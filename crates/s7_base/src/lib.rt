@@ -33,6 +33,3 @@ pub use table::{InstructionRow, instruction_row, instruction_set};
 /// Memory ran out.
 #[derive(Clone, Copy, Debug, PartialEq, Eq)]
 pub struct NoMemory;
-
-#[cfg(test)]
-mod tests;

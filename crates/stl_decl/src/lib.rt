@@ -30,6 +30,3 @@ pub use types::{
     Meaning, Shape, SimpleType, TypeRow, Variable, element_bit, end_bit, first_bit, int_value,
     is_int, rank, round_up, type_row,
 };
-
-#[cfg(test)]
-mod tests;

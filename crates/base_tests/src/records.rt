@@ -1,4 +1,4 @@
-use super::*;
+use event_record::*;
 use s7_base::{Answer, Ask, Entry, Request};
 use std::test::Fail;
 

@@ -1,6 +1,6 @@
 ghost use Rattle.std.specs.Prelude.{◌≤◌, length};
 
-use super::*;
+use stl_decl::*;
 use std::alloc::Global;
 use std::test::Fail;
 use stl_lex::{LoadFault, Tokens, tokens};

@@ -1,7 +1,7 @@
 ghost use Rattle.mc_machine.specs.Stands.{IsRunning};
 
 use super::{begin, give, machine_of};
-use crate::Machine;
+use mc_machine::Machine;
 use s7_base::{Answer, Area, Ask};
 use std::alloc::Global;
 use std::process::Abort;

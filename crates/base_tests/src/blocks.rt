@@ -1,4 +1,4 @@
-use super::*;
+use s7_base::*;
 use std::alloc::Global;
 use std::test::Fail;
 

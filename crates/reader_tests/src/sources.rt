@@ -1,4 +1,4 @@
-use super::*;
+use block_loader::*;
 use std::alloc::Global;
 use std::test::Fail;
 

@@ -1,4 +1,4 @@
-use super::*;
+use stl_reader::*;
 use s7_base::CodeKind;
 use std::alloc::Global;
 use std::test::Fail;

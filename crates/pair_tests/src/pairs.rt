@@ -3,7 +3,7 @@ ghost use Rattle.s7_base.specs.Blocks.{IsPlayable};
 ghost use Rattle.pair_core.specs.World.{part, first_part};
 ghost use Rattle.pair_core.specs.Places.{IsAt};
 
-use super::*;
+use pair_core::*;
 use event_record::Record;
 use plant_script::read_script;
 use s7_base::{Answer, Ask, Blocks, CodeBlock, CodeKind, Entry, Loss, Request, Side};

@@ -1,7 +1,7 @@
 ghost use Rattle.std.specs.Prelude.{IfOk, IfSome};
 ghost use Rattle.s7_base.specs.Blocks.{IsPlayable};
 
-use super::*;
+use subsystem::*;
 use s7_base::{Answer, Area, Ask, Blocks, CodeBlock, CodeKind, DiagCode, Request};
 use std::alloc::Global;
 use std::test::Fail;

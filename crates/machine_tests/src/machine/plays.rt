@@ -2,7 +2,7 @@ ghost use Rattle.std.specs.Prelude.{◌<◌, IfOk};
 ghost use Rattle.mc_machine.specs.Stands.{IsRunning};
 
 use super::{begin, give, machine_of, machine_with, push_all, statement_of};
-use crate::Machine;
+use mc_machine::Machine;
 use s7_base::{Answer, Area, Ask, DiagCode, Loss, Request, Side, StopCode};
 use std::alloc::Global;
 use std::process::Abort;
