@@ -1,0 +1,2 @@
+pub mod SenderRule
+pub mod ReceiverRule

@@ -1,0 +1,12 @@
+//! A fault-tolerant connection: jobs go over two paths, on which frames may be lost, repeated and reordered, and are
+//! handed over once each and in order. `play` plays the events of a file.
+#![tactic(auto)]
+
+mod event;
+mod frame;
+mod receiver;
+mod sender;
+
+pub use frame::{Frame, Path, SendFault, Taken};
+pub use receiver::Receiver;
+pub use sender::Sender;
