@@ -1,2 +1,3 @@
 pub mod SenderRule
 pub mod ReceiverRule
+pub mod Words

@@ -6,6 +6,7 @@ mod event;
 mod frame;
 mod receiver;
 mod sender;
+mod words;
 
 pub use frame::{Frame, Path, SendFault, Taken};
 pub use receiver::Receiver;
