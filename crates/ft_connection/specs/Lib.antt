@@ -1,3 +1,6 @@
 pub mod SenderRule
 pub mod ReceiverRule
 pub mod Words
+pub mod LineForm
+pub mod FileReading
+pub mod FileView

@@ -2,12 +2,16 @@
 //! handed over once each and in order. `play` plays the events of a file.
 #![tactic(auto)]
 
+mod conn_error;
 mod event;
 mod frame;
+mod line;
+mod reading;
 mod receiver;
 mod sender;
 mod words;
 
+pub use conn_error::ConnError;
 pub use frame::{Frame, Path, SendFault, Taken};
 pub use receiver::Receiver;
 pub use sender::Sender;
