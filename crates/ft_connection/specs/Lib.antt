@@ -4,3 +4,5 @@ pub mod Words
 pub mod LineForm
 pub mod FileReading
 pub mod FileView
+pub mod World
+pub mod EventText

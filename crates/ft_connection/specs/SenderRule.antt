@@ -55,9 +55,13 @@ moved s path (Err fault) = s
 abbrev pub after_send : SenderState → Path → SenderState
 after_send s path = moved s path (answer s path)
 
--- no more is acknowledged than there are jobs, of which there are at most 20,000, and no cursor is past the window
-pub record IsSender (s : SenderState) : Type 0 where
-  pub jobs : length s.jobs ≤ 20000
+-- no more is acknowledged than there are jobs, and no cursor is past the window
+pub record IsWindowed (s : SenderState) : Type 0 where
   pub acked : s.acked ≤ length s.jobs
   pub one : s.one.cursor ≤ window_end s
   pub two : s.two.cursor ≤ window_end s
+
+-- the same of at most 20,000 jobs
+pub record IsSender (s : SenderState) : Type 0 where
+  pub jobs : length s.jobs ≤ 20000
+  pub windowed : IsWindowed s

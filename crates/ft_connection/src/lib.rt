@@ -9,6 +9,7 @@ mod line;
 mod reading;
 mod receiver;
 mod sender;
+mod text;
 mod words;
 
 pub use conn_error::ConnError;
