@@ -6,3 +6,7 @@ pub mod FileReading
 pub mod FileView
 pub mod World
 pub mod EventText
+pub mod Sound
+pub mod Playing
+pub mod WireView
+pub mod ConnectionView

@@ -3,6 +3,7 @@
 #![tactic(auto)]
 
 mod conn_error;
+mod connection;
 mod event;
 mod frame;
 mod line;
@@ -10,6 +11,7 @@ mod reading;
 mod receiver;
 mod sender;
 mod text;
+mod wires;
 mod words;
 
 pub use conn_error::ConnError;
