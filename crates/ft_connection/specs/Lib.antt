@@ -8,5 +8,6 @@ pub mod World
 pub mod EventText
 pub mod Sound
 pub mod Playing
+pub mod Outcome
 pub mod WireView
 pub mod ConnectionView

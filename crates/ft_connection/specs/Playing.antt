@@ -30,3 +30,14 @@ abbrev pub Plays : {A : Type 0} → Playing → ℕ → Event → Result A ConnE
 Plays before line event (Ok done) now = (is_named before.world event ≡ true) × (now ≡ goes_on before event)
 Plays before line event (Err (Fault kind at)) now = (is_named before.world event ≡ false) × (kind ≡ 12) × (at ≡ line)
 Plays before line event (Err NoMemory) now = Unit {0}
+
+-- after the events of lines, or the fault of the first that names nothing that was sent by then
+unfoldable pub all_played : Playing → List NumberedEvent → Result Playing ConnError
+all_played p [] = Ok p
+all_played p (n ∷ ns) = if is_named p.world n.event then all_played (goes_on p n.event) ns else Err (Fault 12 n.line)
+
+-- what was returned is what playing gives, and what is held then, unless memory ran out
+abbrev pub PlaysAll : {A : Type 0} → Result Playing ConnError → Result A ConnError → Playing → Type 0
+PlaysAll given (Ok done) now = given ≡ Ok now
+PlaysAll given (Err (Fault kind line)) now = given ≡ Err (Fault kind line)
+PlaysAll given (Err NoMemory) now = Unit {0}

@@ -3,17 +3,18 @@ ghost use Rattle.std.specs.Prelude.{◌≡◌, ℕ, ◌+◌, ◌≤◌, ◌<◌,
 ghost use Rattle.ft_connection.specs.declared.event.Event.TheVariants as events;
 ghost use Rattle.ft_connection.specs.ReceiverRule.{taken, after};
 ghost use Rattle.ft_connection.specs.World.{World, first, step, new_job};
-ghost use Rattle.ft_connection.specs.EventText.{taken_text};
+ghost use Rattle.ft_connection.specs.EventText.{taken_text, done_text};
 ghost use Rattle.ft_connection.specs.Sound.{IsSound};
-ghost use Rattle.ft_connection.specs.Playing.{Playing, begun, goes_on, Plays};
+ghost use Rattle.ft_connection.specs.Playing.{Playing, begun, goes_on, Plays, all_played, PlaysAll};
 ghost use Rattle.ft_connection.specs.ConnectionView.{world_of, playing_of};
 
 use crate::conn_error::ConnError;
 use crate::event::{Event, NumberedEvent};
 use crate::frame::{Frame, Path, Taken};
+use crate::player::{ConnText, Handed, Played};
 use crate::receiver::Receiver;
 use crate::sender::Sender;
-use crate::text::{push_fault, push_take};
+use crate::text::{push_done, push_fault, push_take};
 use crate::wires::Network;
 use std::alloc::Global;
 
@@ -23,11 +24,11 @@ const NO_FRAME: u8 = 12;
 /// Both ends, the network between them, the jobs that were handed over, and the text so far.
 #[derive(Drop)]
 pub(crate) struct Connection {
-    pub(crate) sender: Sender,
+    sender: Sender,
     receiver: Receiver,
     network: Network,
-    pub(crate) handed: Vec<u32>,
-    pub(crate) text: Vec<u8>,
+    handed: Vec<u32>,
+    text: Vec<u8>,
 }
 
 /// The fault of an event that names nothing that was sent by then.
@@ -129,5 +130,41 @@ impl Connection {
                 Ok(())
             }
         }
+    }
+
+    /// Plays events. A fault comes exactly from the first that names nothing that was sent by then.
+    pub(crate) fn play_events(&mut self, events: &[NumberedEvent]) -> Result<(), ConnError>
+        requires sound { IsSound (world_of self.old) }
+        requires few { length self.old.sender.jobs ≤ 20000 }
+        ensures { PlaysAll (all_played (playing_of self.old) events.now) result (playing_of self.new) }
+    {
+        for numbered in events {
+            self.play_event(numbered)?;
+        }
+        Ok(())
+    }
+
+    /// What is shown, with the last line of the text.
+    pub(crate) fn finish(self) -> Result<Played, ConnError>
+        ensures { MatchResult result (λ played. played ≡ record {
+                handed = self.handed.items;
+                acked = self.sender.acked;
+                text = self.text.items ++ done_text self.receiver self.sender.acked;
+            }) (λ e. e ≡ ConnError.NoMemory) }
+    {
+        let Connection {
+            sender,
+            receiver,
+            network: _,
+            handed,
+            mut text,
+        } = self;
+        let acked = sender.acked();
+        push_done(&mut text, receiver.handed(), acked)?;
+        Ok(Played {
+            handed: Handed::new(handed),
+            acked,
+            text: ConnText::new(text),
+        })
     }
 }

@@ -7,6 +7,7 @@ mod connection;
 mod event;
 mod frame;
 mod line;
+mod player;
 mod reading;
 mod receiver;
 mod sender;
@@ -16,5 +17,6 @@ mod words;
 
 pub use conn_error::ConnError;
 pub use frame::{Frame, Path, SendFault, Taken};
+pub use player::{ConnText, Handed, Played, play};
 pub use receiver::Receiver;
 pub use sender::Sender;

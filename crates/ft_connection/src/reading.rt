@@ -29,8 +29,8 @@ pub enum Stage {
 /// What was read of a file.
 #[derive(Drop)]
 pub(crate) struct Reading {
-    pub(crate) jobs: Vec<u32>,
-    pub(crate) events: Vec<NumberedEvent>,
+    jobs: Vec<u32>,
+    events: Vec<NumberedEvent>,
     stage: Stage,
 }
 
@@ -126,6 +126,19 @@ impl Reading {
             Some(line) => self.add_line(number, line),
             None => Err(bad_event(number)),
         }
+    }
+
+    /// The jobs and the events.
+    pub(crate) fn into_parts(self) -> (Vec<u32>, Vec<NumberedEvent>)
+        ensures jobs { result.0.items ≡ self.jobs.items }
+        ensures events { result.1.items ≡ self.events.items }
+    {
+        let Reading {
+            jobs,
+            events,
+            stage: _,
+        } = self;
+        (jobs, events)
     }
 
     /// Whether END was read.
