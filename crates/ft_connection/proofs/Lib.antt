@@ -5,3 +5,4 @@ pub mod ReadingLaws
 pub mod SoundLaws
 pub mod PlayingLaws
 pub mod OutcomeLaws
+pub mod RunLaws

@@ -176,7 +176,7 @@ lane_sound w Two cursor up before low = record {
   windowed = lane_windowed w.sender Two cursor up before.windowed low;
 }
 
-wire_sound : (w : World) (path : Path) → IsSound w → IsSoundWire w.sender.jobs w.handed (wire w.wires path)
+pub wire_sound : (w : World) (path : Path) → IsSound w → IsSoundWire w.sender.jobs w.handed (wire w.wires path)
 wire_sound w One before = before.one
 wire_sound w Two before = before.two
 

@@ -6,6 +6,7 @@ mod conn_error;
 mod connection;
 mod event;
 mod frame;
+mod laws;
 mod line;
 mod player;
 mod reading;
@@ -17,6 +18,10 @@ mod words;
 
 pub use conn_error::ConnError;
 pub use frame::{Frame, Path, SendFault, Taken};
+pub use laws::{
+    frames_name_their_own_jobs, jobs_are_handed_over_once_and_in_order,
+    long_numbers_name_what_they_say, no_more_is_acknowledged_than_handed_over,
+};
 pub use player::{ConnText, Handed, Played, play};
 pub use receiver::Receiver;
 pub use sender::Sender;
