@@ -40,8 +40,8 @@ first_line text at e =
     let passes : ltb (position_or_len is_feed text) (length text) ≡ true = found.0 in
     let below : position_or_len is_feed text < length text = grind (arith, nat_tests) in
     let there : lines text ≡ strip_carriage_return (take (position_or_len is_feed text) text) ∷ lines (drop (position_or_len is_feed text + 1) text) =
-        ap lines_of_parts (slice_split_first is_feed text 0 below)
-        ∙ before_split (take (position_or_len is_feed text) text) (drop (position_or_len is_feed text + 1) text) in
+    ap lines_of_parts (slice_split_first is_feed text 0 below)
+    ∙ before_split (take (position_or_len is_feed text) text) (drop (position_or_len is_feed text + 1) text) in
     subst (λ (n : ℕ). lines text ≡ strip_carriage_return (take n text) ∷ lines (drop (n + 1) text)) found.1 there
 
 -- a text without a line feed is one line
@@ -50,7 +50,7 @@ pub last_line : (text : List ℕ) → 0 < length text → position (λ b. eqb b 
 last_line [] some e = absurd (omega arith)
 last_line (b ∷ bs) some e =
     let fails : ltb (position_or_len is_feed (b ∷ bs)) (length (b ∷ bs)) ≡ false =
-        missing_by (ltb (position_or_len is_feed (b ∷ bs)) (length (b ∷ bs))) (position_or_len is_feed (b ∷ bs)) e in
+    missing_by (ltb (position_or_len is_feed (b ∷ bs)) (length (b ∷ bs))) (position_or_len is_feed (b ∷ bs)) e in
     let past : length (b ∷ bs) ≤ position_or_len is_feed (b ∷ bs) = grind (arith, nat_tests) in
     let none : All (λ x. is_feed x ≡ false) (b ∷ bs) = λ k d h. fails_before_first is_feed (b ∷ bs) k d (omega arith) in
     let nothing : length (b ∷ bs) - length (b ∷ bs) ≡ 0 = omega arith in

@@ -38,7 +38,9 @@ ok_played bytes read played (Some line) is unnamed shows = absurd cc
 ok_played bytes read played None is named shows =
     let same : shown read ≡ played = cc in
     record {
-      says = read; read = is; named = named;
+      says = read;
+      read = is;
+      named = named;
       handed = ap (λ (p : Played). p.handed) (sym same);
       acked = ap (λ (p : Played). p.acked) (sym same);
       text = ap (λ (p : Played). p.text) (sym same);

@@ -81,6 +81,6 @@ all_judged p (n ∷ ns) = by_test (is_named p.world n.event) (all_judged (goes_o
   where
     by_test : (t : Bool) → all_played (goes_on p n.event) ns ≡ judged_by (goes_on p n.event) ns (first_unnamed (step p.world n.event) ns)
         → cond t (all_played (goes_on p n.event) ns) (Err (Fault 12 n.line))
-          ≡ judged_by p (n ∷ ns) (cond t (first_unnamed (step p.world n.event) ns) (Some n.line))
+        ≡ judged_by p (n ∷ ns) (cond t (first_unnamed (step p.world n.event) ns) (Some n.line))
     by_test true same = same ∙ one_more p n ns (first_unnamed (step p.world n.event) ns)
     by_test false same = refl

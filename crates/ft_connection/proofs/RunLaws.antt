@@ -102,7 +102,7 @@ few_after : (jobs : List ℕ) (events : List Event) (path : Path)
     → (length (wire (run (first jobs) events).wires path).frames ≤ length events) × (length (wire (run (first jobs) events).wires path).acks ≤ length events)
 few_after jobs events path =
     few_on (length events) (run (first jobs) events).wires path
-        (run_few 0 (length events) (first jobs) events (omega arith) (omega arith, omega arith, omega arith, omega arith))
+    (run_few 0 (length events) (first jobs) events (omega arith) (omega arith, omega arith, omega arith, omega arith))
 
 capped_or : (which : ℕ) → (capped which ≡ which) ⊎ ((2 ^ 32 - 1 ≤ which) × (2 ^ 32 - 1 ≤ capped which))
 capped_or which = grind arith

@@ -131,14 +131,20 @@ sent_sound w One (Ok frame) before own =
     let kept = frame_kept w.sender.jobs w.handed w.wires One frame (before.one, before.two) own.0 in
     let low = own.1 in
     record {
-      handed = before.handed; acked = before.acked; one = kept.0; two = kept.1;
+      handed = before.handed;
+      acked = before.acked;
+      one = kept.0;
+      two = kept.1;
       windowed = lane_windowed w.sender One (frame.number + 1) true before.windowed (omega arith);
     }
 sent_sound w Two (Ok frame) before own =
     let kept = frame_kept w.sender.jobs w.handed w.wires Two frame (before.one, before.two) own.0 in
     let low = own.1 in
     record {
-      handed = before.handed; acked = before.acked; one = kept.0; two = kept.1;
+      handed = before.handed;
+      acked = before.acked;
+      one = kept.0;
+      two = kept.1;
       windowed = lane_windowed w.sender Two (frame.number + 1) true before.windowed (omega arith);
     }
 
@@ -151,7 +157,10 @@ delivered_sound w path (Some frame) before own =
     let kept = ack_kept w.sender.jobs w.handed (after w.handed frame.number) w.wires path grows (before.one, before.two) in
     record {
       handed = after_low w.handed frame.number (length w.sender.jobs) before.handed below;
-      acked = omega arith; windowed = before.windowed; one = kept.0; two = kept.1;
+      acked = omega arith;
+      windowed = before.windowed;
+      one = kept.0;
+      two = kept.1;
     }
 
 acknowledged_sound : (w : World) (o : Option ℕ) → IsSound w → IfSome o (λ next. next ≤ w.handed) → IsSound (acknowledged w o)
@@ -161,18 +170,27 @@ acknowledged_sound w (Some next) before low =
     let handed = before.handed in
     let window = before.windowed in
     record {
-      handed = before.handed; acked = omega arith; one = before.one; two = before.two;
+      handed = before.handed;
+      acked = omega arith;
+      one = before.one;
+      two = before.two;
       windowed = record { acked = omega arith; one = omega arith; two = omega arith };
     }
 
 lane_sound : (w : World) (path : Path) (cursor : ℕ) (up : Bool) → IsSound w → cursor ≤ window_end w.sender
     → IsSound (record { sender = with_lane w.sender path (record { cursor = cursor; up = up }); handed = w.handed; wires = w.wires })
 lane_sound w One cursor up before low = record {
-  handed = before.handed; acked = before.acked; one = before.one; two = before.two;
+  handed = before.handed;
+  acked = before.acked;
+  one = before.one;
+  two = before.two;
   windowed = lane_windowed w.sender One cursor up before.windowed low;
 }
 lane_sound w Two cursor up before low = record {
-  handed = before.handed; acked = before.acked; one = before.one; two = before.two;
+  handed = before.handed;
+  acked = before.acked;
+  one = before.one;
+  two = before.two;
   windowed = lane_windowed w.sender Two cursor up before.windowed low;
 }
 
@@ -190,12 +208,12 @@ step_sound w (Deliver path which) before =
     let frames = (wire w.wires path).frames in
     let sound = wire_sound w path before in
     delivered_sound w path (slice_get frames which) before
-        (found_option (IsOwn w.sender.jobs) frames which (slice_get frames which) refl sound.frames)
+    (found_option (IsOwn w.sender.jobs) frames which (slice_get frames which) refl sound.frames)
 step_sound w (Ack path which) before =
     let acks = (wire w.wires path).acks in
     let sound = wire_sound w path before in
     acknowledged_sound w (slice_get acks which) before
-        (found_option (λ next. next ≤ w.handed) acks which (slice_get acks which) refl sound.acks)
+    (found_option (λ next. next ≤ w.handed) acks which (slice_get acks which) refl sound.acks)
 step_sound w (Down path) before = lane_sound w path (lane w.sender path).cursor false before (lane_low w.sender path before.windowed)
 step_sound w (Up path) before =
     let window = before.windowed in
@@ -266,7 +284,7 @@ event_takes w (Deliver path which) sound =
     let frames = (wire w.wires path).frames in
     let on_path = wire_sound w path sound in
     delivery_takes w path (slice_get frames which)
-        (found_option (IsOwn w.sender.jobs) frames which (slice_get frames which) refl on_path.frames)
+    (found_option (IsOwn w.sender.jobs) frames which (slice_get frames which) refl on_path.frames)
 event_takes w (Ack path which) sound = acknowledged_takes w (slice_get (wire w.wires path).acks which)
 event_takes w (Down path) sound = append-nil (take w.handed w.sender.jobs)
 event_takes w (Up path) sound = append-nil (take w.handed w.sender.jobs)
@@ -277,7 +295,7 @@ pub run_takes : (jobs : List ℕ) (w : World) (events : List Event) → w.sender
 run_takes jobs w [] is sound = append-nil (take w.handed jobs)
 run_takes jobs w (event ∷ events) is sound =
     let here : take w.handed jobs ++ event_jobs w event ≡ take (step w event).handed jobs =
-        subst (λ (js : List ℕ). take w.handed js ++ event_jobs w event ≡ take (step w event).handed js) is (event_takes w event sound) in
+    subst (λ (js : List ℕ). take w.handed js ++ event_jobs w event ≡ take (step w event).handed js) is (event_takes w event sound) in
     sym (append_assoc (take w.handed jobs) (event_jobs w event) (jobs_handed (step w event) events))
     ∙ ap (λ (front : List ℕ). front ++ jobs_handed (step w event) events) here
     ∙ run_takes jobs (step w event) events (step_jobs w event ∙ is) (step_sound w event sound)

@@ -70,10 +70,10 @@ impl Connection {
     fn take_frame(&mut self, frame: &Frame) -> Result<(), ConnError>
         requires { frame.now.number < 20000 }
         ensures { MatchResult result (λ _. playing_of self.new ≡ record {
-                world = record { sender = self.old.sender; handed = after self.old.receiver frame.now.number; wires = (world_of self.old).wires };
-                handed = self.old.handed.items ++ new_job (taken self.old.receiver frame.now.number) frame.now;
-                text = self.old.text.items ++ taken_text (taken self.old.receiver frame.now.number) frame.now;
-            }) (λ e. e ≡ ConnError.NoMemory) }
+          world = record { sender = self.old.sender; handed = after self.old.receiver frame.now.number; wires = (world_of self.old).wires };
+          handed = self.old.handed.items ++ new_job (taken self.old.receiver frame.now.number) frame.now;
+          text = self.old.text.items ++ taken_text (taken self.old.receiver frame.now.number) frame.now;
+        }) (λ e. e ≡ ConnError.NoMemory) }
     {
         match self.receiver.receive(frame) {
             Taken::New => {
@@ -147,10 +147,10 @@ impl Connection {
     /// What is shown, with the last line of the text.
     pub(crate) fn finish(self) -> Result<Played, ConnError>
         ensures { MatchResult result (λ played. played ≡ record {
-                handed = self.handed.items;
-                acked = self.sender.acked;
-                text = self.text.items ++ done_text self.receiver self.sender.acked;
-            }) (λ e. e ≡ ConnError.NoMemory) }
+          handed = self.handed.items;
+          acked = self.sender.acked;
+          text = self.text.items ++ done_text self.receiver self.sender.acked;
+        }) (λ e. e ≡ ConnError.NoMemory) }
     {
         let Connection {
             sender,

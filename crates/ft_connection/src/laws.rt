@@ -12,22 +12,19 @@ ghost use Rattle.ft_connection.specs.Sound.{IsOwn};
 pub fn jobs_are_handed_over_once_and_in_order()
     ensures prefix { (jobs : List ℕ) (events : List Event) → jobs_handed (first jobs) events ≡ take (run (first jobs) events).handed jobs }
     ensures count { (jobs : List ℕ) (events : List Event) → length (jobs_handed (first jobs) events) ≡ (run (first jobs) events).handed }
-{
-}
+{}
 
 /// No frame that was ever sent names another job than its own.
 pub fn frames_name_their_own_jobs()
     ensures { (jobs : List ℕ) (events : List Event) (path : Path) → All (IsOwn jobs) (wire (run (first jobs) events).wires path).frames }
-{
-}
+{}
 
 /// No more jobs are acknowledged than handed over, and no acknowledgement on its way says otherwise.
 pub fn no_more_is_acknowledged_than_handed_over()
     ensures acked { (jobs : List ℕ) (events : List Event) → (run (first jobs) events).sender.acked ≤ length (jobs_handed (first jobs) events) }
     ensures acks { (jobs : List ℕ) (events : List Event) (path : Path)
         → All (λ next. next ≤ length (jobs_handed (first jobs) events)) (wire (run (first jobs) events).wires path).acks }
-{
-}
+{}
 
 /// That a long number counts as 4,294,967,295 decides nothing: after fewer events than that it names what the number names,
 /// which is nothing.
@@ -36,5 +33,4 @@ pub fn long_numbers_name_what_they_say()
         → slice_get (wire (run (first jobs) events).wires path).frames (capped which) ≡ slice_get (wire (run (first jobs) events).wires path).frames which }
     ensures acks { (jobs : List ℕ) (events : List Event) (path : Path) (which : ℕ) → length events < 2 ^ 32 - 1
         → slice_get (wire (run (first jobs) events).wires path).acks (capped which) ≡ slice_get (wire (run (first jobs) events).wires path).acks which }
-{
-}
+{}

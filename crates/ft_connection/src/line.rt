@@ -76,7 +76,11 @@ fn form_from(first: &[u8], second: &[u8], third: &[u8]) -> Option<Line>
     ensures { result ≡ form_spelled first.now second.now third.now }
 {
     if first == b"END".as_slice() {
-        return if second.is_empty() { Some(Line::End) } else { None };
+        return if second.is_empty() {
+            Some(Line::End)
+        } else {
+            None
+        };
     }
     if first == b"JOB".as_slice() {
         if !third.is_empty() {

@@ -80,11 +80,7 @@ pub struct Played {
 }
 
 /// Plays events over a connection of at most 20,000 jobs.
-fn play_events(
-    alloc: Global,
-    jobs: Vec<u32>,
-    events: &[NumberedEvent],
-) -> Result<Played, ConnError>
+fn play_events(alloc: Global, jobs: Vec<u32>, events: &[NumberedEvent]) -> Result<Played, ConnError>
     requires { length jobs.items ≤ 20000 }
     ensures { Gives (λ played. played) result (playing_shown (all_played (begun jobs.items) events.now)) }
 {

@@ -127,10 +127,13 @@ impl Sender {
             number,
             job: self.jobs[number as usize],
         };
-        self.set_lane(path, Lane {
-            cursor: number + 1,
-            up: true,
-        });
+        self.set_lane(
+            path,
+            Lane {
+                cursor: number + 1,
+                up: true,
+            },
+        );
         Ok(frame)
     }
 

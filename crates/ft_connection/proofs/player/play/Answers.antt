@@ -8,7 +8,7 @@ use Rattle.ft_connection.proofs.player.play.Goals as goal
 given : (c : goal.After-drop-events) → Gives (λ played. played) c.play_events.result (outcome c.args.bytes.now)
 given c =
     gives_outcome c.args.bytes.now (read_of c.in_ok-read_file.field-0) c.play_events.result c.in_ok-read_file.ensures.exact
-        (rw (c.into_parts-jobs.ensures.jobs, c.deref.ensures.value, c.into_parts-jobs.ensures.events) at c.play_events.ensures)
+    (rw (c.into_parts-jobs.ensures.jobs, c.deref.ensures.value, c.into_parts-jobs.ensures.events) at c.play_events.ensures)
 
 pub returns-clause-exact : goal.returns-clause-exact
 returns-clause-exact c = given c

@@ -13,5 +13,5 @@ overflow_add-job c =
     let most : 16 ^ (c.loop-digit.digit-index + 1) ≤ 2 ^ 32 = eight_digits _ (omega arith) in
     let small : c.in_ok-digit_from.field-0 < 16 = search rules in
     let next : 16 * c.loop-digit.job + c.from.result < 16 ^ (c.loop-digit.digit-index + 1) =
-        one_more _ c.loop-digit.job c.from.result c.loop-digit.invariant.1 (omega arith) in
+    one_more _ c.loop-digit.job c.from.result c.loop-digit.invariant.1 (omega arith) in
     omega arith

@@ -16,8 +16,8 @@ pub returns-in_err-play_event : goal.returns-in_err-play_event
 returns-in_err-play_event c =
     let p = err_from_is_err_and c.from_residual.result c.from_residual.ensures.1 in
     rw (p.1, p.2) (stops (playing_of c.loop-numbered.self) c.args.events.now c.loop-numbered.numbered-index no_event
-        (all_played (playing_of c.args.self.now) c.args.events.now) c.loop-numbered-test.true c.loop-numbered.invariant.0
-        (Unit {0}) c.in_err-play_event.field-0.0 (playing_of c.play_event.new.self) _ c.in_err-play_event.ensures)
+    (all_played (playing_of c.args.self.now) c.args.events.now) c.loop-numbered-test.true c.loop-numbered.invariant.0
+    (Unit {0}) c.in_err-play_event.field-0.0 (playing_of c.play_event.new.self) _ c.in_err-play_event.ensures)
 
 pub loop-numbered-preserved : goal.loop-numbered-preserved
 loop-numbered-preserved c =
@@ -34,4 +34,4 @@ loop-numbered-preserved c =
 pub returns : goal.returns
 returns c =
     all_done (playing_of c.loop-numbered.self) c.args.events.now c.loop-numbered.numbered-index
-        (all_played (playing_of c.args.self.now) c.args.events.now) c.loop-numbered-test.false c.loop-numbered.invariant.0
+    (all_played (playing_of c.args.self.now) c.args.events.now) c.loop-numbered-test.false c.loop-numbered.invariant.0
