@@ -6,3 +6,6 @@ pub mod SoundLaws
 pub mod PlayingLaws
 pub mod OutcomeLaws
 pub mod RunLaws
+pub mod WordLaws
+pub mod SpellLaws
+pub mod FileLaws

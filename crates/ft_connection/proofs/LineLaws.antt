@@ -20,7 +20,7 @@ before_test : (t : Bool) (x : List ℕ) (b : ℕ) (parts : List (List ℕ))
 before_test true x b parts = refl
 before_test false x b parts = before_onto x b parts
 
-before_split : (x text : List ℕ) → lines_of_parts (x ∷ slice_split is_feed text) ≡ strip_carriage_return x ∷ lines_of_parts (slice_split is_feed text)
+pub before_split : (x text : List ℕ) → lines_of_parts (x ∷ slice_split is_feed text) ≡ strip_carriage_return x ∷ lines_of_parts (slice_split is_feed text)
 before_split x [] = refl
 before_split x (b ∷ bs) = before_test (is_feed b) x b (slice_split is_feed bs)
 

@@ -5,7 +5,7 @@ use Rattle.std.specs.Option.{option_map}
 use Rattle.std.proofs.lemmas.Bool.Decides.{nat_tests}
 use Rattle.ft_connection.specs.Words.{capped, decimal_value}
 
--- numbers that count as one number do so with any digits behind them
+-- numbers that count as one number do so with any digits after them
 pub same_capped : (m n : ℕ) (cs : List ℕ) → capped m ≡ capped n
     → option_map capped (decimal_value m cs) ≡ option_map capped (decimal_value n cs)
 same_capped m n [] e = ap (λ (k : ℕ). Some k) e

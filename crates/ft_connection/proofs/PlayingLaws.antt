@@ -38,7 +38,7 @@ module _ (p : Playing) (events : List NumberedEvent) (i : ℕ) (d : NumberedEven
       let stopped : all_played p (here ∷ drop (i + 1) events) ≡ Err (Fault 12 here.line) = rw unnamed refl in
       sym from_here ∙ stopped
 
-  -- an event that names nothing, or want of memory
+  -- an event that names nothing, or out of memory
   pub stops : (A : Type 0) (e : ConnError) (now later : Playing) → Plays {A = A} p here.line here.event (Err e) now → PlaysAll {A = A} total (Err e) later
   stops A (Fault kind line) now later failed = stops_by failed.0 ∙ ap (λ (e : ConnError). Err e) (sym (same kind line failed.1 failed.2))
     where

@@ -13,7 +13,11 @@ use Rattle.ft_connection.specs.declared.reading.Stage.TheVariants.{Jobs, Events,
 use Rattle.ft_connection.specs.Words.{◌>>=◌, is_skipped}
 use Rattle.ft_connection.specs.LineForm.{line_spelled}
 use Rattle.ft_connection.specs.FileReading.{Read, with_job, with_event, with_end, with_line, with_text, is_ended, bad_event, read_lines}
-use Rattle.ft_connection.specs.FileView.{HasRoom}
+
+-- there are no more jobs than lines before this one, and no more lines than may stand
+pub record IsCounted (r : Read) (number : ℕ) : Type 0 where
+  pub jobs : length r.jobs + 1 ≤ number
+  pub lines : number ≤ 20001
 
 -- the line may stand, and adds one job at most
 abbrev pub AddsOne : Read → ℕ → Read → Type 0
@@ -55,12 +59,12 @@ pub adds_one : (r : Read) (number : ℕ) (text : List ℕ) → IfSome (with_text
 unfolding with_text
 adds_one r number text = any_adds r number (ltb 20000 number) (is_skipped text) (line_spelled text) refl
 
-pub keeps_room : (r next : Read) (number : ℕ) (text : List ℕ) → with_text r number text ≡ Some next → HasRoom r number → HasRoom next (number + 1)
-keeps_room r next number text is before =
+pub keeps_count : (r next : Read) (number : ℕ) (text : List ℕ) → with_text r number text ≡ Some next → IsCounted r number → IsCounted next (number + 1)
+keeps_count r next number text is before =
     let adds : AddsOne r number next = subst (λ (o : Option Read). IfSome o (AddsOne r number)) is (adds_one r number text) in
     let most = adds.0 in
     let one = adds.1 in
-    let room = before.jobs in
+    let jobs = before.jobs in
     record { jobs = omega arith; lines = omega arith }
 
 pub no_lines : (rest : List ℕ) → length rest ≡ 0 → lines rest ≡ []

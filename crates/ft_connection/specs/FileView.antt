@@ -14,8 +14,3 @@ abbrev pub Adds : {A : Type 0} → Option Read → ℕ → Result A ConnError �
 Adds given number (Ok done) new = given ≡ Some new
 Adds given number (Err (Fault kind line)) new = (given ≡ None) × (kind ≡ 11) × (line ≡ number)
 Adds given number (Err NoMemory) new = Unit {0}
-
--- no more jobs than lines before this one
-pub record HasRoom (r : Read) (number : ℕ) : Type 0 where
-  pub jobs : length r.jobs + 1 ≤ number
-  pub lines : number ≤ 20001

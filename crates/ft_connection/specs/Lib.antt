@@ -11,3 +11,4 @@ pub mod Playing
 pub mod Outcome
 pub mod WireView
 pub mod ConnectionView
+pub mod FileText

@@ -29,8 +29,8 @@ abbrev pub with_lane : SenderState → Path → Lane → SenderState
 with_lane s One changed = record s { one = changed }
 with_lane s Two changed = record s { two = changed }
 
--- the window: sixteen jobs from the first that is not acknowledged, as far as there are jobs. This is the number behind
--- its last job
+-- the window: sixteen jobs from the first that is not acknowledged, as far as there are jobs. This is the number after
+-- that of its last job
 abbrev pub window_end : SenderState → ℕ
 window_end s = min (length s.jobs) (s.acked + 16)
 
@@ -46,7 +46,7 @@ answer s path =
     else if s.acked == length s.jobs then Err Idle
     else Ok (record { number = place s path; job = slice_index s.jobs (place s path) })
 
--- the path's cursor stands behind the frame that was sent
+-- the path's cursor stands after the frame that was sent
 abbrev pub moved : SenderState → Path → Result Frame SendFault → SenderState
 moved s path (Ok frame) = with_lane s path (record { cursor = frame.number + 1; up = true })
 moved s path (Err fault) = s

@@ -32,7 +32,7 @@ word (suc n) text = word n (after_word text)
 abbrev pub is_skipped : List ℕ → Bool
 is_skipped text = length (first_word text) == 0 || slice_index (first_word text) 0 == 35
 
--- the number of decimal digits behind a number that was read
+-- a number that was read, with decimal digits after it
 abbrev pub decimal_value : ℕ → List ℕ → Option ℕ
 decimal_value n [] = Some n
 decimal_value n (c ∷ cs) = if nat_le 48 c && nat_le c 57 then decimal_value (10 * n + (c - 48)) cs else None
@@ -53,7 +53,7 @@ hex_digit digit =
     else if nat_le 97 digit && nat_le digit 102 then Some (digit - 87)
     else None
 
--- the number of hexadecimal digits behind a number that was read
+-- a number that was read, with hexadecimal digits after it
 abbrev pub hex_value : ℕ → List ℕ → Option ℕ
 hex_value n [] = Some n
 hex_value n (c ∷ cs) = hex_digit c >>= λ digit. hex_value (16 * n + digit) cs

@@ -1,7 +1,7 @@
 //! Reads a file of events.
 ghost use Rattle.std.specs.Prelude.{◌≡◌, ℕ, ◌+◌, ◌≤◌, ◌<◌, List, length, Option, Some, None, Result, IfOk};
 ghost use Rattle.ft_connection.specs.FileReading.{Read, nothing, with_job, with_event, with_end, with_line, with_text, is_ended, read_lines, file_read, Gives};
-ghost use Rattle.ft_connection.specs.FileView.{read_of, Adds, HasRoom};
+ghost use Rattle.ft_connection.specs.FileView.{read_of, Adds};
 
 use crate::conn_error::ConnError;
 use crate::event::NumberedEvent;

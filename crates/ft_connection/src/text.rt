@@ -50,7 +50,7 @@ fn hex_digit_of(digit: u8) -> u8
     }
 }
 
-/// Adds a number as so many hexadecimal digits.
+/// Adds a number as `width` hexadecimal digits.
 #[tactic(auto, using(crate::proofs::DigitLaws::no_hex, crate::proofs::DigitLaws::more_hex, std::proofs::Common::append_assoc))]
 fn push_hex(text: &mut Vec<u8>, width: u8, number: u32) -> Result<(), ConnError>
     ensures { MatchResult result (λ _. text.new.items ≡ text.old.items ++ hex width number) (λ e. e ≡ ConnError.NoMemory) }
