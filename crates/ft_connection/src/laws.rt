@@ -1,9 +1,11 @@
 //! What holds after every list of events, whatever frames and acknowledgements the network loses, repeats and reorders, and
 //! whichever paths are down.
-ghost use Rattle.std.specs.Prelude.{◌≡◌, ℕ, ◌+◌, ◌≤◌, ◌<◌, ◌-◌, ◌^◌, List, length, take, slice_get, All};
+ghost use Rattle.std.specs.Prelude.{◌≡◌, ℕ, ◌+◌, ◌≤◌, ◌<◌, ◌-◌, ◌^◌, List, length, take, slice_get, All, Ok};
 ghost use Rattle.ft_connection.specs.declared.event.Event.{Event};
 ghost use Rattle.ft_connection.specs.declared.frame.Path.{Path};
 ghost use Rattle.ft_connection.specs.Words.{capped};
+ghost use Rattle.ft_connection.specs.FileReading.{file_read};
+ghost use Rattle.ft_connection.specs.FileText.{file_text, said, IsShort};
 ghost use Rattle.ft_connection.specs.World.{World, wire, first, run, jobs_handed};
 ghost use Rattle.ft_connection.specs.Sound.{IsOwn};
 
@@ -34,3 +36,12 @@ pub fn long_numbers_name_what_they_say()
     ensures acks { (jobs : List ℕ) (events : List Event) (path : Path) (which : ℕ) → length events < 2 ^ 32 - 1
         → slice_get (wire (run (first jobs) events).wires path).acks (capped which) ≡ slice_get (wire (run (first jobs) events).wires path).acks which }
 {}
+
+/// A file that is written line by line, with one blank between words and without remarks, says exactly the jobs and the events
+/// that were written, each event with the number of its line. Its numbers are below 4,294,967,296, and it has at most
+/// 20,000 lines.
+pub fn a_written_file_is_read_again()
+    ensures { (jobs : List ℕ) (events : List Event) → All (λ job. job < 2 ^ 32) jobs → All IsShort events → length jobs + length events < 20000
+        → file_read (file_text jobs events) ≡ Ok (said jobs events) }
+{
+}
