@@ -25,6 +25,3 @@ pub use laws::{
 pub use player::{ConnText, Handed, Played, play};
 pub use receiver::Receiver;
 pub use sender::Sender;
-
-#[cfg(test)]
-mod tests;

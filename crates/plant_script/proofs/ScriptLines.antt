@@ -10,7 +10,7 @@ use Rattle.std.proofs.lemmas.Bool.{and_parts, eqb-true, leb-true, le-leb, ltb-tr
 use Rattle.std.proofs.lemmas.List.{append-nil, nil_from_length}
 use Rattle.std.proofs.lemmas.List.Elements.{All-nil, All-cons, All-head, All-tail}
 use Rattle.std.proofs.lemmas.Slice.Eq.{bytes_eq-Decides}
-use Rattle.s7_base.specs.Instruction.{◌>>=◌}
+use Rattle.s7_base.specs.Optional.{◌>>=◌}
 use Rattle.s7_base.specs.declared.entry.Side.{Side}
 use Rattle.s7_base.specs.declared.entry.Side.TheVariants.{A, B}
 use Rattle.plant_script.specs.declared.plan.Event.{Event}

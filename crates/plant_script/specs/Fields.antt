@@ -3,7 +3,7 @@ use Rattle.std.specs.Prelude.{◌≡◌, ◌≢◌, ◌<◌, slice_index, ℕ, L
 use Rattle.std.specs.Option.{option_map}
 use Rattle.std.specs.Str.{bytes_eq}
 use Rattle.std.specs.Fmt.{decimal}
-use Rattle.s7_base.specs.Instruction.{◌>>=◌}
+use Rattle.s7_base.specs.Optional.{◌>>=◌}
 use Rattle.plant_script.specs.declared.script_error.ScriptError.{ScriptError}
 use Rattle.plant_script.specs.declared.script_error.ScriptError.TheVariants.{Fault, NoMemory}
 use Rattle.plant_script.specs.declared.script_error.ScriptFault.{ScriptFault}

@@ -2,7 +2,7 @@
 use Rattle.std.specs.Prelude.{ℕ, zero, suc, ◌+◌, ◌*◌, List, [], ◌∷◌, length, ◌==◌, ◌&&◌, Bool, true, false, Option, Some, None, unwrap_or, nat_le, nat_lt, if◌then◌else◌, codes}
 use Rattle.std.specs.Option.{option_map, option_or}
 use Rattle.std.specs.Str.{bytes_eq}
-use Rattle.s7_base.specs.Instruction.{◌>>=◌}
+use Rattle.s7_base.specs.Optional.{◌>>=◌}
 use Rattle.s7_base.specs.declared.entry.Side.{Side}
 use Rattle.s7_base.specs.declared.entry.Side.TheVariants.{A, B}
 use Rattle.plant_script.specs.declared.plan.Event.{Event}
