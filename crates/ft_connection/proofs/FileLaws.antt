@@ -1,6 +1,6 @@
 -- A file that is written is read again.
-use Rattle.std.proofs.Common.{◌≡◌, ℕ, zero, suc, ◌+◌, ◌-◌, ◌<◌, ◌≤◌, ◌^◌, Bool, true, false, cond, eqb, ltb, List, [], ◌∷◌, ◌++◌, codes, length, take, get_or, Option, Some, None, Result, Ok, Err, refl, sym, subst, ◌∙◌, ap, arith}
-use Rattle.std.specs.List.{All, AllByRecursion, flat_map, slice_split}
+use Rattle.std.proofs.Common.{◌≡◌, ℕ, zero, suc, ◌+◌, ◌-◌, ◌<◌, ◌≤◌, ◌^◌, false, eqb, ltb, List, [], ◌∷◌, ◌++◌, codes, length, get_or, Some, Ok, refl, sym, subst, ◌∙◌, ap, arith}
+use Rattle.std.specs.List.{All, AllByRecursion, flat_map}
 use Rattle.std.specs.Option.{option_map}
 use Rattle.std.specs.Fmt.{decimal}
 use Rattle.std.specs.Str.Lines.{lines, lines_of_parts, strip_carriage_return}
@@ -8,7 +8,6 @@ use Rattle.std.proofs.lemmas.List.{append-nil, append_assoc}
 use Rattle.std.proofs.lemmas.List.Elements.{All-nil, All-cons, recursion_from_All}
 use Rattle.std.proofs.lemmas.List.Splits.{slice_split_at}
 use Rattle.std.proofs.lemmas.Bool.Decides.{nat_tests}
-use Rattle.ft_connection.specs.declared.conn_error.ConnError.{ConnError}
 use Rattle.ft_connection.specs.declared.frame.Path.{Path}
 use Rattle.ft_connection.specs.declared.frame.Path.TheVariants.{One, Two}
 use Rattle.ft_connection.specs.declared.event.Event.{Event}
@@ -18,14 +17,14 @@ use Rattle.ft_connection.specs.declared.line.Line.{Line}
 use Rattle.ft_connection.specs.declared.line.Line.TheVariants.{Job, Happens, End}
 use Rattle.ft_connection.specs.declared.reading.Stage.{Stage}
 use Rattle.ft_connection.specs.declared.reading.Stage.TheVariants.{Jobs, Events, Ended}
-use Rattle.ft_connection.specs.Words.{◌>>=◌, is_skipped, first_word, number_spelled, job_spelled}
+use Rattle.ft_connection.specs.Words.{is_skipped, number_spelled, job_spelled}
 use Rattle.ft_connection.specs.LineForm.{event_spelled, form_spelled, line_spelled}
-use Rattle.ft_connection.specs.FileReading.{Read, nothing, with_line, with_text, read_lines, file_read}
-use Rattle.ft_connection.specs.EventText.{hex, path_text}
+use Rattle.ft_connection.specs.FileReading.{Read, with_line, with_text, read_lines, file_read}
+use Rattle.ft_connection.specs.EventText.{path_text}
 use Rattle.ft_connection.specs.FileText.{before, line, job_text, event_words, file_text, numbered, said, IsShort}
 use Rattle.ft_connection.proofs.LineLaws.{before_split}
 use Rattle.ft_connection.proofs.WordLaws.{Lacks, Lacks-append, Begins, begins, begins_last, one_word, two_words, three_words}
-use Rattle.ft_connection.proofs.SpellLaws.{IsNumber, is_number, IsJob, is_job}
+use Rattle.ft_connection.proofs.SpellLaws.{IsNumber, is_number, is_job}
 
 lacks_all : (d : ℕ) (xs : List ℕ) → Lacks d xs → All (λ x. eqb x d ≡ false) xs
 lacks_all d [] lacks = All-nil (λ x. eqb x d ≡ false)
@@ -92,14 +91,14 @@ counted_line : (a : ℕ) (xs : List ℕ) (path : Path) (which : ℕ) (l : Line) 
     → form_spelled (a ∷ xs) (path_text path) (decimal which) ≡ Some l → IsLine (before (a ∷ xs) (before (path_text path) (decimal which))) l
 counted_line a xs One which l number letter word feed return_ spells =
     subst (λ (digits : List ℕ). IsLine (before (a ∷ xs) (before (path_text One) digits)) l) (sym number.digits)
-        (three_line a xs 49 [] number.first number.rest l letter word feed return_ (refl, tt) (refl, tt) (refl, tt)
-            number.no_blank number.no_feed number.no_return
-            (subst (λ (digits : List ℕ). form_spelled (a ∷ xs) (path_text One) digits ≡ Some l) number.digits spells))
+    (three_line a xs 49 [] number.first number.rest l letter word feed return_ (refl, tt) (refl, tt) (refl, tt)
+    number.no_blank number.no_feed number.no_return
+    (subst (λ (digits : List ℕ). form_spelled (a ∷ xs) (path_text One) digits ≡ Some l) number.digits spells))
 counted_line a xs Two which l number letter word feed return_ spells =
     subst (λ (digits : List ℕ). IsLine (before (a ∷ xs) (before (path_text Two) digits)) l) (sym number.digits)
-        (three_line a xs 50 [] number.first number.rest l letter word feed return_ (refl, tt) (refl, tt) (refl, tt)
-            number.no_blank number.no_feed number.no_return
-            (subst (λ (digits : List ℕ). form_spelled (a ∷ xs) (path_text Two) digits ≡ Some l) number.digits spells))
+    (three_line a xs 50 [] number.first number.rest l letter word feed return_ (refl, tt) (refl, tt) (refl, tt)
+    number.no_blank number.no_feed number.no_return
+    (subst (λ (digits : List ℕ). form_spelled (a ∷ xs) (path_text Two) digits ≡ Some l) number.digits spells))
 
 send_form : (path : Path) → form_spelled (codes "SEND") (path_text path) [] ≡ Some (Happens (Send path))
 unfolding form_spelled event_spelled
@@ -139,32 +138,32 @@ end_form = refl
 event_line : (event : Event) → IsShort event → IsLine (event_words event) (Happens event)
 event_line (Send path) short =
     path_line 83 (69 ∷ 78 ∷ 68 ∷ []) path (Happens (Send path)) refl (refl, (refl, (refl, (refl, tt)))) (refl, (refl, (refl, (refl, tt))))
-        (refl, (refl, (refl, (refl, tt)))) (send_form path)
+    (refl, (refl, (refl, (refl, tt)))) (send_form path)
 event_line (Down path) short =
     path_line 68 (79 ∷ 87 ∷ 78 ∷ []) path (Happens (Down path)) refl (refl, (refl, (refl, (refl, tt)))) (refl, (refl, (refl, (refl, tt))))
-        (refl, (refl, (refl, (refl, tt)))) (down_form path)
+    (refl, (refl, (refl, (refl, tt)))) (down_form path)
 event_line (Up path) short =
     path_line 85 (80 ∷ []) path (Happens (Up path)) refl (refl, (refl, tt)) (refl, (refl, tt)) (refl, (refl, tt)) (up_form path)
 event_line (Deliver path which) short =
     let number = is_number which short in
     let spells = subst (λ (digits : List ℕ). form_spelled (codes "DELIVER") (path_text path) digits ≡ Some (Happens (Deliver path which)))
-        (sym number.digits) (deliver_form path which number.first number.rest number.spells) in
+    (sym number.digits) (deliver_form path which number.first number.rest number.spells) in
     counted_line 68 (69 ∷ 76 ∷ 73 ∷ 86 ∷ 69 ∷ 82 ∷ []) path which (Happens (Deliver path which)) number refl
-        (refl, (refl, (refl, (refl, (refl, (refl, (refl, tt))))))) (refl, (refl, (refl, (refl, (refl, (refl, (refl, tt)))))))
-        (refl, (refl, (refl, (refl, (refl, (refl, (refl, tt))))))) spells
+    (refl, (refl, (refl, (refl, (refl, (refl, (refl, tt))))))) (refl, (refl, (refl, (refl, (refl, (refl, (refl, tt)))))))
+    (refl, (refl, (refl, (refl, (refl, (refl, (refl, tt))))))) spells
 event_line (Ack path which) short =
     let number = is_number which short in
     let spells = subst (λ (digits : List ℕ). form_spelled (codes "ACK") (path_text path) digits ≡ Some (Happens (Ack path which)))
-        (sym number.digits) (ack_form path which number.first number.rest number.spells) in
+    (sym number.digits) (ack_form path which number.first number.rest number.spells) in
     counted_line 65 (67 ∷ 75 ∷ []) path which (Happens (Ack path which)) number refl
-        (refl, (refl, (refl, tt))) (refl, (refl, (refl, tt))) (refl, (refl, (refl, tt))) spells
+    (refl, (refl, (refl, tt))) (refl, (refl, (refl, tt))) (refl, (refl, (refl, tt))) spells
 
 job_line : (x : ℕ) → x < 2 ^ 32 → IsLine (job_text x) (Job x)
 job_line x low =
     let job = is_job x low in
     subst (λ (digits : List ℕ). IsLine (before (codes "JOB") digits) (Job x)) (sym job.digits)
-        (two_line 74 (79 ∷ 66 ∷ []) job.first job.rest (Job x) refl (refl, (refl, (refl, tt))) (refl, (refl, (refl, tt))) (refl, (refl, (refl, tt)))
-            job.no_blank job.no_feed job.no_return (job_form x job.first job.rest job.spells))
+    (two_line 74 (79 ∷ 66 ∷ []) job.first job.rest (Job x) refl (refl, (refl, (refl, tt))) (refl, (refl, (refl, tt))) (refl, (refl, (refl, tt)))
+    job.no_blank job.no_feed job.no_return (job_form x job.first job.rest job.spells))
 
 end_line : IsLine (codes "END") End
 end_line = record {
@@ -191,19 +190,19 @@ reading jobs events stage = record { jobs = jobs; events = events; stage = stage
 -- the lines of jobs
 jobs_read : (front jobs : List ℕ) (number : ℕ) (rest : List ℕ) → AllByRecursion (λ x. x < 2 ^ 32) jobs → number + length jobs ≤ 20001
     → read_lines (reading front [] Jobs) number (lines (flat_map (λ x. line (job_text x)) jobs ++ rest))
-      ≡ read_lines (reading (front ++ jobs) [] Jobs) (number + length jobs) (lines rest)
+    ≡ read_lines (reading (front ++ jobs) [] Jobs) (number + length jobs) (lines rest)
 jobs_read front [] number rest fit few =
     let same : number + 0 ≡ number = omega arith in
     sym (ap (λ (f : List ℕ). read_lines (reading f [] Jobs) number (lines rest)) (append-nil front))
     ∙ sym (ap (λ (n : ℕ). read_lines (reading (front ++ []) [] Jobs) n (lines rest)) same)
 jobs_read front (x ∷ jobs) number rest fit few =
     let here = reads_line (reading front [] Jobs) (reading (front ++ x ∷ []) [] Jobs) number (job_text x)
-        (flat_map (λ y. line (job_text y)) jobs ++ rest) (Job x) (job_line x fit.0) (omega arith) refl in
+    (flat_map (λ y. line (job_text y)) jobs ++ rest) (Job x) (job_line x fit.0) (omega arith) refl in
     let later = jobs_read (front ++ x ∷ []) jobs (number + 1) rest fit.1 (omega arith) in
     let count : (number + 1) + length jobs ≡ number + suc (length jobs) = omega arith in
     let list : (front ++ x ∷ []) ++ jobs ≡ front ++ x ∷ jobs = append_assoc front (x ∷ []) jobs in
     ap (λ (bytes : List ℕ). read_lines (reading front [] Jobs) number (lines bytes))
-        (append_assoc (line (job_text x)) (flat_map (λ y. line (job_text y)) jobs) rest)
+    (append_assoc (line (job_text x)) (flat_map (λ y. line (job_text y)) jobs) rest)
     ∙ here
     ∙ later
     ∙ ap (λ (n : ℕ). read_lines (reading ((front ++ x ∷ []) ++ jobs) [] Jobs) n (lines rest)) count
@@ -231,19 +230,19 @@ with_event_open jobs events Ended number event open_ = absurd open_
 events_read : (jobs : List ℕ) (front : List NumberedEvent) (stage : Stage) (events : List Event) (number : ℕ) → IsOpen stage
     → AllByRecursion IsShort events → number + length events ≤ 20000
     → read_lines (reading jobs front stage) number (lines (flat_map (λ event. line (event_words event)) events ++ line (codes "END")))
-      ≡ Ok (reading jobs (front ++ numbered number events) Ended)
+    ≡ Ok (reading jobs (front ++ numbered number events) Ended)
 events_read jobs front stage [] number open_ fit few =
     rw (append-nil front)
-        (reads_line (reading jobs front stage) (reading jobs front Ended) number (codes "END") [] End end_line (omega arith)
-            (with_end_open jobs front stage number open_))
+    (reads_line (reading jobs front stage) (reading jobs front Ended) number (codes "END") [] End end_line (omega arith)
+    (with_end_open jobs front stage number open_))
 events_read jobs front stage (event ∷ events) number open_ fit few =
     let numbered_event : NumberedEvent = record { line = number; event = event } in
     let rest = flat_map (λ e. line (event_words e)) events ++ line (codes "END") in
     let here = reads_line (reading jobs front stage) (reading jobs (front ++ numbered_event ∷ []) Events) number (event_words event) rest
-        (Happens event) (event_line event fit.0) (omega arith) (with_event_open jobs front stage number event open_) in
+    (Happens event) (event_line event fit.0) (omega arith) (with_event_open jobs front stage number event open_) in
     let later = events_read jobs (front ++ numbered_event ∷ []) Events events (number + 1) tt fit.1 (omega arith) in
     let list : (front ++ numbered_event ∷ []) ++ numbered (number + 1) events ≡ front ++ numbered_event ∷ numbered (number + 1) events =
-        append_assoc front (numbered_event ∷ []) (numbered (number + 1) events) in
+    append_assoc front (numbered_event ∷ []) (numbered (number + 1) events) in
     rw (append_assoc (line (event_words event)) (flat_map (λ e. line (event_words e)) events) (line (codes "END"))) (here ∙ rw list at later)
 
 -- a file that is written is read again
@@ -252,6 +251,6 @@ pub file_again : (jobs : List ℕ) (events : List Event) → All (λ x. x < 2 ^ 
 file_again jobs events jobs_fit events_fit few =
     let count : 1 + length jobs ≡ length jobs + 1 = omega arith in
     let first = jobs_read [] jobs 1 (flat_map (λ event. line (event_words event)) events ++ line (codes "END"))
-        (recursion_from_All (λ x. x < 2 ^ 32) jobs jobs_fit) (omega arith) in
+    (recursion_from_All (λ x. x < 2 ^ 32) jobs jobs_fit) (omega arith) in
     let then_ = events_read jobs [] Jobs events (length jobs + 1) tt (recursion_from_All IsShort events events_fit) (omega arith) in
     rw count at first ∙ then_

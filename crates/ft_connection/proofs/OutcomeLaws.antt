@@ -1,15 +1,13 @@
 -- What playing a file gives, in the terms of the world.
-use Rattle.std.proofs.Common.{◌≡◌, ℕ, ◌+◌, ◌<◌, ◌≤◌, min, List, [], ◌∷◌, ◌++◌, length, take, Option, Some, None, Result, Ok, Err, refl, sym, subst, ◌∙◌, ap, arith, length-take}
+use Rattle.std.proofs.Common.{◌≡◌, ℕ, ◌≤◌, List, length, take, Option, Some, None, Result, Ok, Err, refl, sym, subst, ap, arith, length-take}
 use Rattle.std.specs.Result.{IfOk}
 use Rattle.ft_connection.specs.declared.conn_error.ConnError.{ConnError}
-use Rattle.ft_connection.specs.declared.conn_error.ConnError.TheVariants.{Fault, NoMemory}
 use Rattle.ft_connection.specs.declared.event.Event.{Event}
-use Rattle.ft_connection.specs.declared.event.NumberedEvent.{NumberedEvent}
 use Rattle.ft_connection.specs.declared.player.Played.{Played}
-use Rattle.ft_connection.specs.World.{World, first, run, jobs_handed}
+use Rattle.ft_connection.specs.World.{first, run, jobs_handed}
 use Rattle.ft_connection.specs.Sound.{IsSound}
 use Rattle.ft_connection.specs.FileReading.{Read, file_read, Gives}
-use Rattle.ft_connection.specs.Playing.{Playing, begun, all_played}
+use Rattle.ft_connection.specs.Playing.{begun, all_played}
 use Rattle.ft_connection.specs.Outcome.{events_of, first_unnamed, last_world, shown, judged, outcome_of, outcome, playing_shown, IsPlayed}
 use Rattle.ft_connection.proofs.SoundLaws.{first_sound, run_sound, run_takes, run_jobs}
 use Rattle.ft_connection.proofs.PlayingLaws.{judged_by, all_judged}

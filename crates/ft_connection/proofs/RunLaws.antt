@@ -1,5 +1,5 @@
 -- What holds after every list of events.
-use Rattle.std.proofs.Common.{◌≡◌, ◌⊎◌, inl, inr, ℕ, suc, ◌+◌, ◌-◌, ◌^◌, ◌<◌, ◌≤◌, min, List, [], ◌∷◌, ◌++◌, length, take, slice_get, Option, Some, None, Result, Ok, Err, refl, sym, subst, ◌∙◌, ap, arith, length-take}
+use Rattle.std.proofs.Common.{◌≡◌, ◌⊎◌, inl, inr, ℕ, ◌+◌, ◌-◌, ◌^◌, ◌<◌, ◌≤◌, List, [], ◌∷◌, ◌++◌, length, take, slice_get, Option, Some, None, Result, Ok, Err, refl, sym, subst, ◌∙◌, ap, arith, length-take}
 use Rattle.std.specs.List.{All}
 use Rattle.std.proofs.lemmas.List.{length_push}
 use Rattle.std.proofs.lemmas.Option.{slice_get_past}
@@ -13,7 +13,7 @@ use Rattle.ft_connection.specs.SenderRule.{answer}
 use Rattle.ft_connection.specs.ReceiverRule.{after}
 use Rattle.ft_connection.specs.Words.{capped}
 use Rattle.ft_connection.specs.World.{World, Wires, wire, with_frame, with_ack, first, sent, delivered, acknowledged, step, run, jobs_handed}
-use Rattle.ft_connection.specs.Sound.{IsOwn, IsSoundWire, IsSound}
+use Rattle.ft_connection.specs.Sound.{IsOwn, IsSound}
 use Rattle.ft_connection.proofs.SoundLaws.{first_sound, run_sound, run_takes, run_jobs, wire_sound}
 
 pub handed_prefix : (jobs : List ℕ) (events : List Event) → jobs_handed (first jobs) events ≡ take (run (first jobs) events).handed jobs

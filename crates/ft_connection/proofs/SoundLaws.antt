@@ -1,5 +1,5 @@
 -- Every step of a world keeps it sound.
-use Rattle.std.proofs.Common.{◌≡◌, ℕ, suc, ◌+◌, ◌<◌, ◌≤◌, min, max, Bool, true, false, not, ◌||◌, cond, eqb, ltb, List, [], ◌∷◌, ◌++◌, length, take, get_or, slice_get, Option, Some, None, Result, Ok, Err, refl, sym, subst, ◌∙◌, ap, arith, rules}
+use Rattle.std.proofs.Common.{◌≡◌, ℕ, ◌+◌, ◌<◌, ◌≤◌, Bool, true, false, not, ◌||◌, cond, eqb, ltb, List, [], ◌∷◌, ◌++◌, length, take, get_or, slice_get, Option, Some, None, Result, Ok, Err, refl, sym, subst, ◌∙◌, ap, arith}
 use Rattle.std.specs.List.{All}
 use Rattle.std.specs.Option.{IfSome}
 use Rattle.std.specs.Result.{IfOk}
@@ -15,9 +15,9 @@ use Rattle.ft_connection.specs.declared.frame.SendFault.TheVariants as faults
 use Rattle.ft_connection.specs.declared.frame.Taken.TheVariants.{New, Old, Ahead}
 use Rattle.ft_connection.specs.declared.event.Event.{Event}
 use Rattle.ft_connection.specs.declared.event.Event.TheVariants.{Send, Deliver, Ack, Down, Up}
-use Rattle.ft_connection.specs.SenderRule.{SenderState, IsWindowed, lane, with_lane, window_end, place, answer, moved}
-use Rattle.ft_connection.specs.ReceiverRule.{taken, after}
-use Rattle.ft_connection.specs.World.{World, Wires, Wire, wire, with_wire, with_frame, with_ack, first, sent, delivered, acknowledged, path_down, path_up, step, new_job, frame_jobs, event_jobs, run, jobs_handed}
+use Rattle.ft_connection.specs.SenderRule.{SenderState, IsWindowed, lane, with_lane, window_end, place, answer}
+use Rattle.ft_connection.specs.ReceiverRule.{after}
+use Rattle.ft_connection.specs.World.{World, Wires, Wire, wire, with_frame, with_ack, first, sent, delivered, acknowledged, step, new_job, frame_jobs, event_jobs, run, jobs_handed}
 use Rattle.ft_connection.specs.Sound.{IsOwn, IsSoundWire, IsSound}
 
 pub first_sound : (jobs : List ℕ) → IsSound (first jobs)

@@ -1,7 +1,6 @@
 -- A number that is written is read again.
-use Rattle.std.proofs.Common.{◌≡◌, ◌⊎◌, ℕ, zero, suc, ◌+◌, ◌-◌, ◌*◌, ◌/◌, ◌%◌, ◌^◌, ◌<◌, ◌≤◌, min, Bool, true, false, cond, eqb, leb, ltb, ◌&&◌, List, [], ◌∷◌, ◌++◌, length, Option, Some, None, refl, sym, subst, ◌∙◌, ap, arith, add-one}
+use Rattle.std.proofs.Common.{◌≡◌, ℕ, zero, suc, ◌+◌, ◌-◌, ◌*◌, ◌/◌, ◌%◌, ◌^◌, ◌<◌, ◌≤◌, min, Bool, true, false, cond, eqb, leb, ltb, ◌&&◌, List, [], ◌∷◌, ◌++◌, length, Option, Some, None, refl, ◌∙◌, ap, arith}
 use Rattle.std.proofs.Math.Nat.{pow-suc}
-use Rattle.std.specs.Option.{option_map}
 use Rattle.std.specs.Fmt.{decimal}
 use Rattle.std.proofs.lemmas.List.{length_push}
 use Rattle.std.proofs.lemmas.Bool.Decides.{nat_tests}
@@ -39,7 +38,7 @@ decimal_again (suc turns) n low fits = by_test (ltb n 10) refl (λ m less small.
         let large : 10 ≤ n = grind (arith, nat_tests) in
         let front : decimal_value 0 (decimal (n / 10)) ≡ Some (n / 10) = again (n / 10) (omega arith) (omega arith) in
         let last : decimal_value 0 (decimal (n / 10) ++ (48 + n % 10) ∷ []) ≡ (decimal_value 0 (decimal (n / 10)) >>= λ v. Some (10 * v + ((48 + n % 10) - 48))) =
-            decimal_more 0 (decimal (n / 10)) (48 + n % 10) (omega arith) (omega arith) in
+        decimal_more 0 (decimal (n / 10)) (48 + n % 10) (omega arith) (omega arith) in
         let whole : decimal_value 0 (decimal (n / 10) ++ (48 + n % 10) ∷ []) ≡ Some (10 * (n / 10) + ((48 + n % 10) - 48)) = rw front at last in
         let same : 10 * (n / 10) + ((48 + n % 10) - 48) ≡ n = omega arith in
         rw (more_digits n large fits) (whole ∙ ap (λ (k : ℕ). Some k) same)
@@ -69,7 +68,9 @@ by_digits n (c ∷ cs) low is some read =
     let full : eqb (suc (length cs)) 0 ≡ false = grind (arith, nat_tests) in
     let same : min n 4294967295 ≡ n = omega arith in
     record {
-      first = c; rest = cs; digits = is;
+      first = c;
+      rest = cs;
+      digits = is;
       spells = rw (full, read) (ap (λ (k : ℕ). Some k) same);
       no_blank = decimal_lacks 32 0 (c ∷ cs) n (omega arith) read;
       no_feed = decimal_lacks 10 0 (c ∷ cs) n (omega arith) read;
@@ -171,7 +172,9 @@ by_hex x [] is long read = absurd (omega arith)
 by_hex x (c ∷ cs) is long read =
     let eight : eqb (suc (length cs)) 8 ≡ true = grind (arith, nat_tests) in
     record {
-      first = c; rest = cs; digits = is;
+      first = c;
+      rest = cs;
+      digits = is;
       spells = rw eight read;
       no_blank = hex_lacks 32 0 (c ∷ cs) x (omega arith) read;
       no_feed = hex_lacks 10 0 (c ∷ cs) x (omega arith) read;

@@ -1,9 +1,9 @@
 -- The words of a line that is written with one blank between words.
-use Rattle.std.proofs.Common.{◌≡◌, ℕ, zero, suc, ◌+◌, ◌<◌, ◌≤◌, Bool, true, false, not, cond, eqb, ltb, List, [], ◌∷◌, ◌++◌, length, take, drop, Option, Some, None, unwrap_or, position, refl, sym, subst, ◌∙◌, ap, arith, length-append}
+use Rattle.std.proofs.Common.{◌≡◌, ℕ, suc, ◌+◌, ◌≤◌, Bool, true, false, not, cond, eqb, ltb, List, [], ◌∷◌, ◌++◌, length, Some, None, unwrap_or, position, refl, ◌∙◌, arith}
 use Rattle.std.specs.List.{position_or_len}
 use Rattle.std.proofs.lemmas.List.{take_at, drop_at, take_all, drop_all}
 use Rattle.std.proofs.lemmas.Bool.Decides.{nat_tests}
-use Rattle.ft_connection.specs.Words.{blanks, word_length, first_word, after_word, word, is_skipped}
+use Rattle.ft_connection.specs.Words.{blanks, word_length, first_word, after_word}
 use Rattle.ft_connection.specs.LineForm.{form_spelled, line_spelled}
 
 -- no byte is d
@@ -113,12 +113,12 @@ pub two_words : (a : ℕ) (xs : List ℕ) (b : ℕ) (ys : List ℕ) → Lacks 32
     → line_spelled ((a ∷ xs) ++ 32 ∷ b ∷ ys) ≡ form_spelled (a ∷ xs) (b ∷ ys) []
 two_words a xs b ys first second =
     words_three ((a ∷ xs) ++ 32 ∷ b ∷ ys) (a ∷ xs) (b ∷ ys) [] (32 ∷ b ∷ ys) [] (begins a xs (b ∷ ys) first)
-        (skips b ys (b ∷ ys) [] second.0 (begins_last b ys second)) (record { first = refl; after = refl })
+    (skips b ys (b ∷ ys) [] second.0 (begins_last b ys second)) (record { first = refl; after = refl })
 
 pub three_words : (a : ℕ) (xs : List ℕ) (b : ℕ) (ys : List ℕ) (c : ℕ) (zs : List ℕ) → Lacks 32 (a ∷ xs) → Lacks 32 (b ∷ ys) → Lacks 32 (c ∷ zs)
     → line_spelled ((a ∷ xs) ++ 32 ∷ ((b ∷ ys) ++ 32 ∷ c ∷ zs)) ≡ form_spelled (a ∷ xs) (b ∷ ys) (c ∷ zs)
 three_words a xs b ys c zs first second third =
     words_three ((a ∷ xs) ++ 32 ∷ ((b ∷ ys) ++ 32 ∷ c ∷ zs)) (a ∷ xs) (b ∷ ys) (c ∷ zs) (32 ∷ ((b ∷ ys) ++ 32 ∷ c ∷ zs)) (32 ∷ c ∷ zs)
-        (begins a xs ((b ∷ ys) ++ 32 ∷ c ∷ zs) first)
-        (skips b (ys ++ 32 ∷ c ∷ zs) (b ∷ ys) (32 ∷ c ∷ zs) second.0 (begins b ys (c ∷ zs) second))
-        (skips c zs (c ∷ zs) [] third.0 (begins_last c zs third))
+    (begins a xs ((b ∷ ys) ++ 32 ∷ c ∷ zs) first)
+    (skips b (ys ++ 32 ∷ c ∷ zs) (b ∷ ys) (32 ∷ c ∷ zs) second.0 (begins b ys (c ∷ zs) second))
+    (skips c zs (c ∷ zs) [] third.0 (begins_last c zs third))

@@ -1,5 +1,5 @@
 -- What the reader holds.
-use Rattle.std.specs.Prelude.{◌≡◌, ℕ, ◌+◌, ◌≤◌, length, List, Option, Some, None, Result, Ok, Err}
+use Rattle.std.specs.Prelude.{◌≡◌, ℕ, Option, Some, None, Result, Ok, Err}
 use Rattle.ft_connection.specs.declared.conn_error.ConnError.{ConnError}
 use Rattle.ft_connection.specs.declared.conn_error.ConnError.TheVariants.{Fault, NoMemory}
 use Rattle.ft_connection.specs.declared.reading.Reading.{Reading}

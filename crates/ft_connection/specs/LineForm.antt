@@ -1,5 +1,5 @@
 -- The forms of a line.
-use Rattle.std.specs.Prelude.{ℕ, ◌==◌, ◌&&◌, List, length, codes, Option, Some, None, if◌then◌else◌}
+use Rattle.std.specs.Prelude.{ℕ, ◌==◌, List, length, codes, Option, Some, None, if◌then◌else◌}
 use Rattle.std.specs.Option.{option_map}
 use Rattle.std.specs.Str.{bytes_eq}
 use Rattle.ft_connection.specs.declared.frame.Path.{Path}

@@ -5,7 +5,7 @@ use Rattle.ft_connection.specs.declared.conn_error.ConnError.TheVariants.{Fault}
 use Rattle.ft_connection.specs.declared.event.Event.{Event}
 use Rattle.ft_connection.specs.declared.event.NumberedEvent.{NumberedEvent}
 use Rattle.ft_connection.specs.declared.player.Played.{Played}
-use Rattle.ft_connection.specs.World.{World, first, step, is_named, run, jobs_handed}
+use Rattle.ft_connection.specs.World.{World, first, step, is_named, run}
 use Rattle.ft_connection.specs.EventText.{events_text, done_text}
 use Rattle.ft_connection.specs.FileReading.{Read, file_read}
 use Rattle.ft_connection.specs.Playing.{Playing}

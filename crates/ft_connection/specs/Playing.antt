@@ -1,5 +1,5 @@
 -- A connection that is played: its world, the jobs handed over and the text so far.
-use Rattle.std.specs.Prelude.{◌≡◌, ℕ, ◌+◌, List, [], ◌∷◌, ◌++◌, Bool, true, false, map, Option, Some, None, Result, Ok, Err, if◌then◌else◌}
+use Rattle.std.specs.Prelude.{◌≡◌, ℕ, List, [], ◌∷◌, ◌++◌, true, false, Result, Ok, Err, if◌then◌else◌}
 use Rattle.ft_connection.specs.declared.conn_error.ConnError.{ConnError}
 use Rattle.ft_connection.specs.declared.conn_error.ConnError.TheVariants.{Fault, NoMemory}
 use Rattle.ft_connection.specs.declared.event.Event.{Event}

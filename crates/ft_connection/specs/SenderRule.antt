@@ -1,5 +1,5 @@
 -- What the sender does.
-use Rattle.std.specs.Prelude.{ℕ, ◌+◌, ◌≤◌, ◌==◌, min, Bool, true, not, ◌||◌, nat_lt, List, length, slice_index, Result, Ok, Err, if◌then◌else◌}
+use Rattle.std.specs.Prelude.{ℕ, ◌+◌, ◌≤◌, ◌==◌, min, true, not, ◌||◌, nat_lt, List, length, slice_index, Result, Ok, Err, if◌then◌else◌}
 use Rattle.ft_connection.specs.declared.frame.Frame.{Frame}
 use Rattle.ft_connection.specs.declared.frame.Path.{Path}
 use Rattle.ft_connection.specs.declared.frame.Path.TheVariants.{One, Two}

@@ -1,5 +1,5 @@
 -- A connection as a world, and its steps.
-use Rattle.std.specs.Prelude.{ℕ, ◌+◌, max, Bool, true, false, List, [], ◌∷◌, ◌++◌, length, slice_get, is_some, Option, Some, None, Result, Ok, Err}
+use Rattle.std.specs.Prelude.{ℕ, max, Bool, true, false, List, [], ◌∷◌, ◌++◌, slice_get, is_some, Option, Some, None, Result, Ok, Err}
 use Rattle.ft_connection.specs.declared.frame.Frame.{Frame}
 use Rattle.ft_connection.specs.declared.frame.Path.{Path}
 use Rattle.ft_connection.specs.declared.frame.Path.TheVariants.{One, Two}

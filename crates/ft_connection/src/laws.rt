@@ -43,5 +43,4 @@ pub fn long_numbers_name_what_they_say()
 pub fn a_written_file_is_read_again()
     ensures { (jobs : List ℕ) (events : List Event) → All (λ job. job < 2 ^ 32) jobs → All IsShort events → length jobs + length events < 20000
         → file_read (file_text jobs events) ≡ Ok (said jobs events) }
-{
-}
+{}

@@ -19,8 +19,9 @@ mod words;
 pub use conn_error::ConnError;
 pub use frame::{Frame, Path, SendFault, Taken};
 pub use laws::{
-    a_written_file_is_read_again, frames_name_their_own_jobs, jobs_are_handed_over_once_and_in_order,
-    long_numbers_name_what_they_say, no_more_is_acknowledged_than_handed_over,
+    a_written_file_is_read_again, frames_name_their_own_jobs,
+    jobs_are_handed_over_once_and_in_order, long_numbers_name_what_they_say,
+    no_more_is_acknowledged_than_handed_over,
 };
 pub use player::{ConnText, Handed, Played, play};
 pub use receiver::Receiver;

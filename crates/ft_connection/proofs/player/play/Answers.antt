@@ -1,4 +1,3 @@
-use Rattle.std.proofs.Common.{◌≡◌}
 use Rattle.ft_connection.specs.FileReading.{Gives}
 use Rattle.ft_connection.specs.FileView.{read_of}
 use Rattle.ft_connection.specs.Outcome.{outcome}

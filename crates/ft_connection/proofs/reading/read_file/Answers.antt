@@ -1,4 +1,4 @@
-use Rattle.std.proofs.Common.{◌≡◌, Some, rules, arith}
+use Rattle.std.proofs.Common.{◌≡◌, Some}
 use Rattle.std.specs.Str.Lines.{lines}
 use Rattle.ft_connection.specs.FileReading.{with_text, file_read}
 use Rattle.ft_connection.specs.FileView.{read_of}

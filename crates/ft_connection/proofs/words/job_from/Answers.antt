@@ -1,4 +1,4 @@
-use Rattle.std.proofs.Common.{◌≡◌, ◌≤◌, ◌<◌, ◌+◌, ◌*◌, ◌^◌, arith, rules}
+use Rattle.std.proofs.Common.{◌≤◌, ◌<◌, ◌+◌, ◌*◌, ◌^◌, arith, rules}
 use Rattle.ft_connection.proofs.NumberLaws.{one_more, eight_digits}
 use Rattle.ft_connection.proofs.words.job_from.Goals as goal
 

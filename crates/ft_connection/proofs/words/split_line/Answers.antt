@@ -1,5 +1,4 @@
-use Rattle.std.proofs.Common.{◌+◌, ◌∷◌, take, drop, length, rules, arith, sym}
-use Rattle.std.specs.Str.Lines.{lines}
+use Rattle.std.proofs.Common.{◌+◌, sym}
 use Rattle.std.proofs.lemmas.List.{take_rest}
 use Rattle.ft_connection.proofs.LineLaws.{first_line, last_line}
 use Rattle.ft_connection.proofs.words.split_line.Goals as goal

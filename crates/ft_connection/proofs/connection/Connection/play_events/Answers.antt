@@ -1,9 +1,8 @@
-use Rattle.std.proofs.Common.{◌≡◌, ap, rules}
+use Rattle.std.proofs.Common.{◌≡◌, ap}
 use Rattle.std.proofs.lemmas.Result.{err_from_is_err_and}
 use Rattle.ft_connection.specs.declared.event.Event.TheVariants.{Send}
 use Rattle.ft_connection.specs.declared.event.NumberedEvent.{NumberedEvent}
 use Rattle.ft_connection.specs.declared.frame.Path.TheVariants.{One}
-use Rattle.ft_connection.specs.World.{World}
 use Rattle.ft_connection.specs.Playing.{Playing, all_played}
 use Rattle.ft_connection.specs.ConnectionView.{world_of, playing_of}
 use Rattle.ft_connection.proofs.PlayingLaws.{plays_on, stops, kept, all_done}
