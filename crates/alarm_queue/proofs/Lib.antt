@@ -1,0 +1,3 @@
+pub mod CursorLaws
+pub mod OrderLaws
+pub mod RoomLaws

@@ -1,0 +1,5 @@
+pub mod Capacity
+pub mod Cursor
+pub mod Due
+pub mod Order
+pub mod Waiting
