@@ -15,11 +15,14 @@ cpu_slot ob = record { ob = ob; line = 0 }
 abbrev pub module_slot : ℕ → Slot
 module_slot line = record { ob = 70; line = line }
 
--- those of the CPU, OB30 to OB38 and OB80, and OB70 for each module
+-- those of the CPU: OB30 to OB38 and OB80
+abbrev pub cpu_slots : List Slot
+cpu_slots =
+    cpu_slot 30 ∷ cpu_slot 31 ∷ cpu_slot 32 ∷ cpu_slot 33 ∷ cpu_slot 34 ∷ cpu_slot 35 ∷ cpu_slot 36 ∷ cpu_slot 37 ∷ cpu_slot 38 ∷ cpu_slot 80 ∷ []
+
+-- those of the CPU, and OB70 for each module
 abbrev pub slots : List ℕ → List Slot
-slots modules =
-    cpu_slot 30 ∷ cpu_slot 31 ∷ cpu_slot 32 ∷ cpu_slot 33 ∷ cpu_slot 34 ∷ cpu_slot 35 ∷ cpu_slot 36 ∷ cpu_slot 37 ∷ cpu_slot 38
-    ∷ cpu_slot 80 ∷ map module_slot modules
+slots modules = cpu_slots ++ map module_slot modules
 
 abbrev pub is_of_slot : DueAlarm → Slot → Bool
 is_of_slot x s = line_of x.source == s.line && x.ob == s.ob

@@ -17,14 +17,17 @@ abbrev pub left_by : Answer → List DueAlarm → List DueAlarm
 left_by (Alarm ob info) xs = tail xs
 left_by _ xs = xs
 
--- what waits at moment 0
-abbrev pub first_waiting : Schedule → List DueAlarm
-first_waiting schedule = add_all (due_at schedule 0) []
+-- what waits at the moment, where these waited: what is due by the script and the clock comes in, and what the pair adds
+abbrev pub waiting_at : Schedule → ℕ → List DueAlarm → List DueAlarm → List DueAlarm
+waiting_at schedule k by_pair xs = add_all by_pair (add_all (due_at schedule k) xs)
 
--- what waits at the moment k + 1 after entry k with this answer: what the answer leaves, what is due by the script and the clock,
--- and what the pair adds
+-- what waits at moment 0
+abbrev pub first_waiting : Schedule → List DueAlarm → List DueAlarm
+first_waiting schedule by_pair = waiting_at schedule 0 by_pair []
+
+-- what waits at the moment after entry k with this answer, where these waited before it
 abbrev pub waiting_after : Schedule → ℕ → Answer → List DueAlarm → List DueAlarm → List DueAlarm
-waiting_after schedule k answer by_pair xs = add_all by_pair (add_all (due_at schedule (k + 1)) (left_by answer xs))
+waiting_after schedule k answer by_pair xs = waiting_at schedule (k + 1) by_pair (left_by answer xs)
 
 -- the first that waits, where its priority is above this one: its OB and its start information
 abbrev pub first_above : ℕ → List DueAlarm → Option (ℕ × ℕ)
