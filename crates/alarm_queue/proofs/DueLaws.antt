@@ -12,7 +12,7 @@ use Rattle.alarm_queue.specs.declared.alarm.DueAlarm.{DueAlarm}
 use Rattle.alarm_queue.specs.declared.alarm.Source.TheVariants.{Cpu, Module, Line}
 use Rattle.alarm_queue.specs.Order.{due_alarm, is_before, line_of, waits_once, add, add_all, InOrder}
 use Rattle.alarm_queue.specs.Capacity.{Slot, cpu_slots, module_slot, slots, QueueState, is_of_slot, has_slot}
-use Rattle.alarm_queue.specs.Due.{Schedule, is_of_line, alarm_by, alarm_of, is_loaded, cyclic_obs, lines_due, cyclic_due, due_at}
+use Rattle.alarm_queue.specs.Due.{Schedule, rises_from, is_of_line, alarm_by, alarm_of, is_loaded, cyclic_obs, lines_due, cyclic_due, due_at}
 use Rattle.alarm_queue.specs.Cursor.{IsRising}
 use Rattle.alarm_queue.specs.Waiting.{State, is_of_pair, source_by, is_its_line}
 use Rattle.alarm_queue.proofs.OrderLaws.{order_head}
@@ -59,17 +59,33 @@ pub line_others : (list : List Event) → All (λ a. waits_once a.ob ≡ false) 
 line_others [] = λ k d less. absurd (omega arith)
 line_others (event ∷ rest) = others_by event (alarm_of event) (filter_map alarm_of rest) (line_alarm event) (line_others rest)
 
-rising_by : (m : ℕ) (event : Event) (o : Option DueAlarm) (rest : List DueAlarm) → IfAlarm event o → m ≤ event.moment → IsRising event.moment rest → IsRising m rest → IsRising m (cons_option o rest)
-rising_by m event None rest h le from_here from_there = from_there
-rising_by m event (Some a) rest h le from_here from_there = (omega (arith, h.due), subst (λ k. IsRising k rest) (sym h.due) from_here)
+rising_more : (m n : ℕ) (lines : List DueAlarm) → IsRising m lines → n ≤ m → IsRising n lines
+rising_more m n [] h le = tt
+rising_more m n (a ∷ rest) h le = (omega (arith, h.0), h.1)
 
-pub line_rising : (m : ℕ) (list : List Event) → All (λ event. m ≤ event.moment) list → AllPairs (λ earlier later. earlier.moment ≤ later.moment) list → IsRising m (filter_map alarm_of list)
-line_rising m [] from pairs = tt
-line_rising m (event ∷ rest) from pairs =
-    let later : AllPairs (λ earlier later. earlier.moment ≤ later.moment) rest = λ i j d lt less. pairs (suc i) (suc j) d (omega arith) (omega arith) in
-    rising_by m event (alarm_of event) (filter_map alarm_of rest) (line_alarm event) (from 0 event (omega arith))
-    (line_rising event.moment rest (λ k d less. pairs 0 (suc k) d (omega arith) (omega arith)) later)
-    (line_rising m rest (All-tail (λ e. m ≤ e.moment) event rest from) later)
+rising_by : (m : ℕ) (event : Event) (o : Option DueAlarm) (rest : List DueAlarm) → IfAlarm event o → m ≤ event.moment → IsRising event.moment rest → IsRising m (cons_option o rest)
+rising_by m event None rest h le from_here = rising_more event.moment m rest from_here le
+rising_by m event (Some a) rest h le from_here = (omega (arith, h.due), subst (λ k. IsRising k rest) (sym h.due) from_here)
+
+both_true : (a b : Bool) → (a && b) ≡ true → (a ≡ true) × (b ≡ true)
+both_true true true h = (refl, refl)
+both_true true false h = absurd (cc h)
+both_true false b h = absurd (cc h)
+
+pub line_rising : (m : ℕ) (list : List Event) → rises_from m list ≡ true → IsRising m (filter_map alarm_of list)
+line_rising m [] h = tt
+line_rising m (event ∷ rest) h =
+    let parts = both_true (nat_le m event.moment) (rises_from event.moment rest) h in
+    let le : m ≤ event.moment = (let test = parts.0 in grind (arith, nat_tests)) in
+    rising_by m event (alarm_of event) (filter_map alarm_of rest) (line_alarm event) le (line_rising event.moment rest parts.1)
+
+-- the events of a script rise
+pub rises : (m : ℕ) (list : List Event) → All (λ event. m ≤ event.moment) list → AllPairs (λ earlier later. earlier.moment ≤ later.moment) list → rises_from m list ≡ true
+rises m [] from pairs = refl
+rises m (event ∷ rest) from pairs =
+    let le : m ≤ event.moment = from 0 event (omega arith) in
+    let first : nat_le m event.moment ≡ true = grind (arith, nat_tests) in
+    rw first (rises event.moment rest (λ k d less. pairs 0 (suc k) d (omega arith) (omega arith)) (λ i j d lt less. pairs (suc i) (suc j) d (omega arith) (omega arith)))
 
 -- the cyclic blocks --
 

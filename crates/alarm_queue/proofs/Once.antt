@@ -1,8 +1,9 @@
 -- Each line is answered at most as often as it comes in.
-use Rattle.std.proofs.Common.{◌≡◌, ◌∙◌, ℕ, suc, ◌+◌, ◌*◌, ◌<◌, ◌≤◌, Bool, true, false, List, [], ◌∷◌, ◌++◌, length, get_or, refl, ap, sym, subst, arith}
+use Rattle.std.proofs.Common.{◌≡◌, ◌∙◌, ℕ, zero, suc, ◌+◌, ◌*◌, ◌<◌, ◌≤◌, Bool, true, false, List, [], ◌∷◌, ◌++◌, length, get_or, refl, ap, sym, subst, arith}
 use Rattle.std.specs.Prelude.{if◌then◌else◌, nat_lt, ◌==◌, ◌&&◌, ◌%◌, ◌/◌, ◌↔◌, All, map, filter, Option, Some, None, IsTrue}
 use Rattle.std.specs.List.{filter_map, cons_option, AllPairs}
 use Rattle.std.proofs.lemmas.Bool.Decides.{nat_tests}
+use Rattle.std.proofs.Math.Nat.{mul-mod_left, mul-le-mul_left}
 use Rattle.s7_base.specs.Blocks.{Program}
 use Rattle.s7_base.specs.declared.entry.Answer.{Answer}
 use Rattle.s7_base.specs.declared.entry.Answer.TheVariants as answers
@@ -161,5 +162,34 @@ answered_once plan program by_pair steps own first h n =
 
 -- periods --
 
+some_period : (ob : ℕ) → 0 < period_of ob
+some_period ob = grind (arith, nat_tests)
+
+-- for a test of a number and of a rest
+both_true : (a b : Bool) → (a && b) ≡ true → (a ≡ true) × (b ≡ true)
+both_true true true h = (refl, refl)
+both_true true false h = absurd (cc h)
+both_true false b h = absurd (cc h)
+
+some_times : (n k p : ℕ) → 0 < k → k ≡ n * p → 0 < n
+some_times zero k p later is = absurd (omega (arith, is))
+some_times (suc n) k p later is = omega arith
+
+whole : (k p : ℕ) → 0 < p → (nat_lt 0 k && k % p == 0) ≡ true → (n : ℕ) × (0 < n) × (k ≡ n * p)
+whole k p some h =
+    let parts = both_true (nat_lt 0 k) (k % p == 0) h in
+    let later : 0 < k = (let test = parts.0 in grind (arith, nat_tests)) in
+    let rest : k % p ≡ 0 = (let test = parts.1 in grind (arith, nat_tests)) in
+    let product : k ≡ k / p * p = omega (arith, some, rest) in
+    (k / p, some_times (k / p) k p later product, product)
+
+ends : (k p : ℕ) → 0 < p → ((n : ℕ) × (0 < n) × (k ≡ n * p)) → (nat_lt 0 k && k % p == 0) ≡ true
+ends k p some times =
+    let rest : k % p ≡ 0 = ap (λ m. m % p) times.2 ∙ mul-mod_left times.0 p in
+    let later : 0 < k = omega (arith, times.2, mul-le-mul_left p times.1) in
+    let first : nat_lt 0 k ≡ true = grind (arith, nat_tests) in
+    let second : (k % p == 0) ≡ true = grind (arith, nat_tests) in
+    rw first second
+
 pub due_by_period : (ob k : ℕ) → IsDueByPeriod ob k
-due_by_period ob k = ?
+due_by_period ob k = (whole k (period_of ob) (some_period ob), ends k (period_of ob) (some_period ob))

@@ -1,5 +1,5 @@
 -- Which alarms become due at a moment.
-use Rattle.std.specs.Prelude.{◌≡◌, ℕ, ◌%◌, ◌==◌, Bool, ◌&&◌, ◌||◌, if◌then◌else◌, nat_lt, List, [], ◌∷◌, ◌++◌, map, filter, Option, Some, None, is_some}
+use Rattle.std.specs.Prelude.{◌≡◌, ℕ, ◌%◌, ◌==◌, Bool, ◌&&◌, ◌||◌, if◌then◌else◌, nat_lt, nat_le, true, List, [], ◌∷◌, ◌++◌, map, filter, Option, Some, None, is_some}
 use Rattle.std.specs.List.{filter_map}
 use Rattle.s7_base.specs.Priorities.{is_process}
 use Rattle.s7_base.specs.Blocks.{Program, code_of}
@@ -32,6 +32,11 @@ alarm_by moment line (events.Suspect side pass) = None
 -- the alarm of an ALARM line
 abbrev pub alarm_of : Event → Option DueAlarm
 alarm_of event = alarm_by event.moment event.line event.what
+
+-- none of the events is earlier than the one before it, and the first not than this moment
+abbrev pub rises_from : ℕ → List Event → Bool
+rises_from m [] = true
+rises_from m (event ∷ rest) = nat_le m event.moment && rises_from event.moment rest
 
 -- by the clock --
 

@@ -2,13 +2,13 @@
 ghost use Rattle.std.specs.Prelude.{◌≡◌, ◌↔◌, ◌≤◌, ◌<◌, ◌+◌, ◌-◌, ◌==◌, if◌then◌else◌, [], All, None, Some, IfOk, IsTrue, length};
 ghost use Rattle.alarm_queue.specs.Order.{due_alarm, InOrder, add, add_all, tail};
 ghost use Rattle.alarm_queue.specs.Capacity.{AreOnce};
-ghost use Rattle.alarm_queue.specs.Due.{schedule_of, due_at};
+ghost use Rattle.alarm_queue.specs.Due.{schedule_of, due_at, rises_from};
 ghost use Rattle.alarm_queue.specs.Waiting.{first_above, first_of, is_of_pair, source_by, is_its_line};
 
 use crate::alarm::{DueAlarm, Source};
 use crate::queue::Queue;
 use crate::schedule::{add_cyclic, add_lines, line_alarms, loaded_cyclic, module_lines};
-use plant_script::Script;
+use plant_script::{Event, Module, Script};
 use s7_base::{Blocks, NoMemory};
 use std::alloc::Global;
 use std::marker::Model;
@@ -40,19 +40,34 @@ impl Waiting {
     pub fn new(alloc: Global, script: &Script, blocks: &Blocks) -> Result<Waiting, NoMemory>
         ensures { IfOk result (λ w. w ≡ record { schedule = schedule_of script.now blocks.now; waiting = []; moment = 0; redundancy_left = script.now.end }) }
     {
-        let lines = line_alarms(alloc, script.events())?;
+        Waiting::over(alloc, script.events(), script.modules(), script.end(), blocks)
+    }
+
+    /// The same, for the parts of a script: its events, whose moments do not fall, its modules and its end.
+    pub(crate) fn over(
+        alloc: Global,
+        events: &[Event],
+        modules: &[Module],
+        end: u32,
+        blocks: &Blocks,
+    ) -> Result<Waiting, NoMemory>
+        requires { IsTrue (rises_from 0 events.now) }
+        ensures { IfOk result (λ w. w ≡ record {
+            schedule = schedule_of (record { modules = modules.now; events = events.now; end = end }) blocks.now;
+            waiting = []; moment = 0; redundancy_left = end }) }
+    {
+        let lines = line_alarms(alloc, events)?;
         let cyclic = loaded_cyclic(alloc, blocks)?;
-        let modules = module_lines(alloc, script.modules())?;
-        let redundancy_left = script.end();
-        let more = lines.len() + redundancy_left as usize;
-        let queue = Queue::new(alloc, modules, more)?;
+        let module_lines = module_lines(alloc, modules)?;
+        let more = lines.len() + end as usize;
+        let queue = Queue::new(alloc, module_lines, more)?;
         Ok(Waiting {
             lines,
             cyclic,
             cursor: 0,
             last: None,
             queue,
-            redundancy_left,
+            redundancy_left: end,
         })
     }
 

@@ -1,25 +1,10 @@
-use Rattle.std.proofs.Common.{◌≡◌, ◌+◌, false, length, vec_len, sym, subst, arith, rules}
-use Rattle.std.specs.Prelude.{All, IsTrue}
-use Rattle.std.specs.List.{filter, filter_map}
-use Rattle.s7_base.specs.Priorities.{is_cyclic}
+use Rattle.std.proofs.Common.{◌≡◌, true, sym, subst, arith}
 use Rattle.plant_script.specs.Plan.{IsPlan}
-use Rattle.alarm_queue.specs.Order.{waits_once}
-use Rattle.alarm_queue.specs.Due.{alarm_of, is_loaded, cyclic_obs}
-use Rattle.alarm_queue.specs.Cursor.{IsPast}
-use Rattle.alarm_queue.specs.Capacity.{QueueState}
-use Rattle.alarm_queue.proofs.CursorLaws.{past_first}
-use Rattle.alarm_queue.proofs.DueLaws.{line_others, line_rising, all_cyclic}
+use Rattle.alarm_queue.specs.Due.{rises_from}
+use Rattle.alarm_queue.proofs.DueLaws.{rises}
 use Rattle.alarm_queue.proofs.waiting.Waiting.new.Goals as goal
 
-pub invariant_of-result : goal.invariant_of-result
-invariant_of-result c =
-    let lines : c.in_ok-lines.lines.items ≡ filter_map alarm_of c.args.script.now.events = search rules in
-    let cyclic : c.in_ok-cyclic.cyclic.items ≡ filter (is_loaded c.args.blocks.now) cyclic_obs = search rules in
+pub over-requires : goal.over-requires
+over-requires c =
     let form : IsPlan c.args.script.now = c.events.ensures.form in
-    let more : c.in_ok-queue.queue.more ≡ vec_len c.in_ok-lines.lines + c.end-redundancy_left.result = search rules in
-    record {
-      past = subst (λ ls. IsPast ls 0 0) (sym lines) (past_first (filter_map alarm_of c.args.script.now.events) (line_rising 0 c.args.script.now.events (λ k d less. omega arith) form.rising));
-      others = subst (λ ls. All (λ a. waits_once a.ob ≡ false) ls) (sym lines) (line_others c.args.script.now.events);
-      periods = subst (λ obs. All (λ ob. IsTrue (is_cyclic ob)) obs) (sym cyclic) (all_cyclic (is_loaded c.args.blocks.now));
-      more = omega (arith, more, c.in_ok-lines.lines.ok);
-    }
+    subst (λ list. rises_from 0 list ≡ true) (sym c.events.ensures.list) (rises 0 c.args.script.now.events (λ k d less. omega arith) form.rising)
