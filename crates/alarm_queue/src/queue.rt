@@ -46,11 +46,18 @@ fn insert(alarms: &mut VecDeque<DueAlarm>, alarm: DueAlarm)
     };
 }
 
-/// Whether one that is the same waits. Goes over those that wait, at most.
+/// Whether one that is the same waits. Looks from the last to the first, since cyclic alarms go last.
 fn is_waiting(alarms: &VecDeque<DueAlarm>, alarm: &DueAlarm) -> bool
     ensures { result ≡ waits alarm.now alarms.now.items }
 {
-    alarms.iter().any(|other| alarm.is_same(other))
+    let mut place = alarms.len();
+    while place > 0 {
+        place -= 1;
+        if alarm.is_same(&alarms[place]) {
+            return true;
+        }
+    }
+    false
 }
 
 impl Queue {
