@@ -159,6 +159,6 @@ state schedule waiting moment left = record { schedule = schedule; waiting = wai
 pub state_due : (lines : List DueAlarm) (cyclic : List ℕ) (ls : List DueAlarm) (cs : List ℕ) (q r s : QueueState) (k left : ℕ) → ls ≡ lines → cs ≡ cyclic
     → r ≡ record q { alarms = add_all (cyclic_due cs k) q.alarms } → s.alarms ≡ add_all (lines_due ls k) r.alarms → s.modules ≡ r.modules
     → state (record { lines = lines; cyclic = cyclic; modules = s.modules }) s.alarms (k + 1) left
-      ≡ state (record { lines = lines; cyclic = cyclic; modules = q.modules }) (add_all (cyclic_due cyclic k ++ lines_due lines k) q.alarms) (k + 1) left
+    ≡ state (record { lines = lines; cyclic = cyclic; modules = q.modules }) (add_all (cyclic_due cyclic k ++ lines_due lines k) q.alarms) (k + 1) left
 state_due lines cyclic ls cs q r s k left el ec er es em =
     let both = added_both (cyclic_due cyclic k) (lines_due lines k) q.alarms in cc

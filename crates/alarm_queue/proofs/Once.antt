@@ -79,11 +79,13 @@ count_at : (schedule : Schedule) (n k : ℕ) (by_pair xs : List DueAlarm) → Ar
     → count_line n (waiting_at schedule k by_pair xs) + coming n (k + 1) schedule.lines ≤ count_line n xs + coming n k schedule.lines
 count_at schedule n k by_pair xs h =
     let both = ap (λ ys. count_line n ys) (added_both (cyclic_due schedule.cyclic k) (lines_due schedule.lines k) xs) in
-    omega (arith,
-    count_pair n by_pair (add_all (due_at schedule k) xs) h,
-    both,
-    count_lines n k schedule.lines (add_all (cyclic_due schedule.cyclic k) xs),
-    count_pair n (cyclic_due schedule.cyclic k) xs (cyclic_is_none schedule.cyclic k))
+    omega (
+      arith,
+      count_pair n by_pair (add_all (due_at schedule k) xs) h,
+      both,
+      count_lines n k schedule.lines (add_all (cyclic_due schedule.cyclic k) xs),
+      count_pair n (cyclic_due schedule.cyclic k) xs (cyclic_is_none schedule.cyclic k),
+    )
 
 count_tail : (n : ℕ) (xs : List DueAlarm) → count_first n xs + count_line n (tail xs) ≡ count_line n xs
 count_tail n [] = refl
@@ -97,10 +99,12 @@ once_from : (schedule : Schedule) (n k : ℕ) (xs : List DueAlarm) (steps : List
     → times_answered_from schedule n k xs steps ≤ count_line n xs + coming n (k + 1) schedule.lines
 once_from schedule n k xs [] h = omega arith
 once_from schedule n k xs (s ∷ ss) h =
-    omega (arith,
-    once_from schedule n (k + 1) (waiting_after schedule k s.answer s.by_pair xs) ss h.1,
-    count_at schedule n (k + 1) s.by_pair (left_by s.answer xs) h.0,
-    count_left n xs s.answer)
+    omega (
+      arith,
+      once_from schedule n (k + 1) (waiting_after schedule k s.answer s.by_pair xs) ss h.1,
+      count_at schedule n (k + 1) s.by_pair (left_by s.answer xs) h.0,
+      count_left n xs s.answer,
+    )
 
 all_coming : (n : ℕ) (lines : List DueAlarm) → coming n 0 lines ≡ count_line n lines
 all_coming n [] = refl
@@ -153,7 +157,7 @@ own_line : (n : ℕ) (list : List Event) → AllPairs (λ earlier later. earlier
 own_line n [] h = omega arith
 own_line n (event ∷ rest) h =
     let one_at_most = own_by n event rest (event.line == n) refl (counted_by n event.moment event.line event.what) (λ k d below. h 0 (suc k) d (omega arith) (omega arith))
-      (own_line n rest (λ i j d lt below. h (suc i) (suc j) d (omega arith) (omega arith))) in
+    (own_line n rest (λ i j d lt below. h (suc i) (suc j) d (omega arith) (omega arith))) in
     omega (arith, one_at_most, count_option n (alarm_of event) (filter_map alarm_of rest))
 
 pub answered_once : (plan : Plan) (program : Program) (by_pair : List DueAlarm) (steps : List Step) → AnsweredOnce plan program by_pair steps

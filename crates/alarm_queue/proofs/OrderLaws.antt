@@ -49,8 +49,8 @@ not_when false h = refl
 pub partitioned : (x : DueAlarm) (xs : List DueAlarm) → InOrder xs → IsPartitionedBy (λ y. not (is_before x y)) xs
 partitioned x xs order = λ i j d le less h.
     elim (eq-or-lt_of_le le) [
-    | inl same ↦ subst (λ k. not (is_before x (get_or xs k d)) ≡ true) (sym same) h
-    | inr lt ↦ not_when _ (not_before (get_or xs i d) (get_or xs j d) x (not_is _ h) (order i j d lt less))
+      | inl same ↦ subst (λ k. not (is_before x (get_or xs k d)) ≡ true) (sym same) h
+      | inr lt ↦ not_when _ (not_before (get_or xs i d) (get_or xs j d) x (not_is _ h) (order i j d lt less))
     ]
 
 -- the part point of the search is the place

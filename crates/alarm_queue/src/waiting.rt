@@ -40,7 +40,13 @@ impl Waiting {
     pub fn new(alloc: Global, script: &Script, blocks: &Blocks) -> Result<Waiting, NoMemory>
         ensures { IfOk result (λ w. w ≡ record { schedule = schedule_of script.now blocks.now; waiting = []; moment = 0; redundancy_left = script.now.end }) }
     {
-        Waiting::over(alloc, script.events(), script.modules(), script.end(), blocks)
+        Waiting::over(
+            alloc,
+            script.events(),
+            script.modules(),
+            script.end(),
+            blocks,
+        )
     }
 
     /// The same, for the parts of a script: its events, whose moments do not fall, its modules and its end.
@@ -53,8 +59,11 @@ impl Waiting {
     ) -> Result<Waiting, NoMemory>
         requires { IsTrue (rises_from 0 events.now) }
         ensures { IfOk result (λ w. w ≡ record {
-            schedule = schedule_of (record { modules = modules.now; events = events.now; end = end }) blocks.now;
-            waiting = []; moment = 0; redundancy_left = end }) }
+          schedule = schedule_of (record { modules = modules.now; events = events.now; end = end }) blocks.now;
+          waiting = [];
+          moment = 0;
+          redundancy_left = end;
+        }) }
     {
         let lines = line_alarms(alloc, events)?;
         let cyclic = loaded_cyclic(alloc, blocks)?;
@@ -91,8 +100,9 @@ impl Waiting {
         requires line { IsTrue (is_its_line self.old.schedule.modules ob line) }
         requires left { ob ≡ 72 → 0 < self.old.redundancy_left }
         ensures { self.new ≡ record self.old {
-            waiting = add (due_alarm ob k (source_by ob line) info) self.old.waiting;
-            redundancy_left = if ob == 72 then self.old.redundancy_left - 1 else self.old.redundancy_left } }
+          waiting = add (due_alarm ob k (source_by ob line) info) self.old.waiting;
+          redundancy_left = if ob == 72 then self.old.redundancy_left - 1 else self.old.redundancy_left;
+        } }
     {
         let source = if ob == 70 {
             Source::Module(line)
