@@ -1,10 +1,10 @@
 -- What becomes due comes in line by line, and has its place.
-use Rattle.std.proofs.Common.{◌≡◌, ◌∙◌, ℕ, suc, ◌+◌, ◌<◌, ◌≤◌, Bool, true, false, List, [], ◌∷◌, ◌++◌, length, get_or, refl, ap, sym, subst, arith}
+use Rattle.std.proofs.Common.{◌≡◌, ℕ, suc, ◌+◌, ◌≤◌, Bool, true, false, List, [], ◌∷◌, ◌++◌, get_or, refl, sym, subst, arith}
 use Rattle.std.specs.Prelude.{if◌then◌else◌, ◌==◌, ◌&&◌, ◌||◌, All, IsTrue, map, filter, Option, Some, None, slice_get, nat_le, nat_lt}
 use Rattle.std.specs.List.{filter_map, cons_option, list_any, AllPairs}
 use Rattle.std.proofs.lemmas.Bool.Decides.{nat_tests}
-use Rattle.std.proofs.lemmas.List.Elements.{All-cons, All-tail}
-use Rattle.s7_base.specs.Priorities.{is_cyclic, is_process}
+use Rattle.std.proofs.lemmas.List.Elements.{All-cons}
+use Rattle.s7_base.specs.Priorities.{is_cyclic}
 use Rattle.plant_script.specs.declared.plan.Event.{Event}
 use Rattle.plant_script.specs.declared.plan.What.{What}
 use Rattle.plant_script.specs.declared.plan.What.TheVariants as events
@@ -12,7 +12,7 @@ use Rattle.alarm_queue.specs.declared.alarm.DueAlarm.{DueAlarm}
 use Rattle.alarm_queue.specs.declared.alarm.Source.TheVariants.{Cpu, Module, Line}
 use Rattle.alarm_queue.specs.Order.{due_alarm, is_before, line_of, waits_once, add, add_all, InOrder}
 use Rattle.alarm_queue.specs.Capacity.{Slot, cpu_slots, module_slot, slots, QueueState, is_of_slot, has_slot}
-use Rattle.alarm_queue.specs.Due.{Schedule, rises_from, is_of_line, alarm_by, alarm_of, is_loaded, cyclic_obs, lines_due, cyclic_due, due_at}
+use Rattle.alarm_queue.specs.Due.{Schedule, rises_from, is_of_line, alarm_by, alarm_of, cyclic_obs, lines_due, cyclic_due}
 use Rattle.alarm_queue.specs.Cursor.{IsRising}
 use Rattle.alarm_queue.specs.Waiting.{State, is_of_pair, source_by, is_its_line}
 use Rattle.alarm_queue.proofs.OrderLaws.{order_head}

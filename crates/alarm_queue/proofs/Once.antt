@@ -1,6 +1,6 @@
 -- Each line is answered at most as often as it comes in.
-use Rattle.std.proofs.Common.{◌≡◌, ◌∙◌, ℕ, zero, suc, ◌+◌, ◌*◌, ◌<◌, ◌≤◌, Bool, true, false, List, [], ◌∷◌, ◌++◌, length, get_or, refl, ap, sym, subst, arith}
-use Rattle.std.specs.Prelude.{if◌then◌else◌, nat_lt, ◌==◌, ◌&&◌, ◌%◌, ◌/◌, ◌↔◌, All, map, filter, Option, Some, None, IsTrue}
+use Rattle.std.proofs.Common.{◌≡◌, ◌∙◌, ℕ, zero, suc, ◌+◌, ◌*◌, ◌<◌, ◌≤◌, Bool, true, false, List, [], ◌∷◌, refl, ap, arith}
+use Rattle.std.specs.Prelude.{if◌then◌else◌, nat_lt, ◌==◌, ◌&&◌, ◌%◌, ◌/◌, All, map, filter, Option, Some, None}
 use Rattle.std.specs.List.{filter_map, cons_option, AllPairs}
 use Rattle.std.proofs.lemmas.Bool.Decides.{nat_tests}
 use Rattle.std.proofs.Math.Nat.{mul-mod_left, mul-le-mul_left}
@@ -17,7 +17,7 @@ use Rattle.alarm_queue.specs.Order.{due_alarm, is_before, insert, waits_once, wa
 use Rattle.alarm_queue.specs.Due.{Schedule, schedule_of, alarm_by, alarm_of, period_of, ends_period, lines_due, cyclic_due, due_at}
 use Rattle.alarm_queue.specs.Due as due
 use Rattle.alarm_queue.specs.Waiting.{left_by, waiting_at, first_waiting, waiting_after}
-use Rattle.alarm_queue.specs.Laws.{Step, is_of_line, count_line, AreOfPair, StepsAreOfPair, count_first, count_answered, times_answered_from, AnsweredAsGiven, HasOwnLines, AnsweredOnce, IsDueByPeriod}
+use Rattle.alarm_queue.specs.Laws.{Step, is_of_line, count_line, AreOfPair, StepsAreOfPair, count_first, count_answered, times_answered_from, AnsweredAsGiven, AnsweredOnce, IsDueByPeriod}
 use Rattle.alarm_queue.proofs.DueLaws.{added_both}
 
 -- the lines of this number that are due from the moment on

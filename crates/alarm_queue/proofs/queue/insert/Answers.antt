@@ -1,6 +1,5 @@
-use Rattle.std.proofs.Common.{◌≡◌, ◌≤◌, ◌∙◌, length, arith, rules}
+use Rattle.std.proofs.Common.{◌≤◌, ◌∙◌, length, arith, rules}
 use Rattle.std.specs.Prelude.{not}
-use Rattle.std.specs.VecDeque.{deque_len}
 use Rattle.std.proofs.lemmas.List.Sorted.{IsPartitionPoint-from_clause}
 use Rattle.alarm_queue.specs.Order.{is_before}
 use Rattle.alarm_queue.proofs.OrderLaws.{partitioned, inserted}

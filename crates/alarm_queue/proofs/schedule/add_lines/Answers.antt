@@ -1,4 +1,3 @@
-use Rattle.std.proofs.Common.{arith}
 use Rattle.alarm_queue.proofs.CursorLaws.{passing_stop}
 use Rattle.alarm_queue.specs.declared.alarm.Source.TheVariants.{Cpu}
 use Rattle.alarm_queue.proofs.schedule.add_lines.Goals as goal

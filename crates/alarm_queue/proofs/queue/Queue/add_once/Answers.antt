@@ -1,4 +1,4 @@
-use Rattle.std.proofs.Common.{◌≡◌, ◌∙◌, true, false, ap, sym, subst, arith, rules}
+use Rattle.std.proofs.Common.{◌≡◌, true, false, sym, subst, arith, rules}
 use Rattle.std.specs.VecDeque.{deque_capacity}
 use Rattle.alarm_queue.specs.Order.{InOrder, waits}
 use Rattle.alarm_queue.specs.Capacity.{HasRoom, has_slot, slots}

@@ -1,4 +1,4 @@
-use Rattle.std.proofs.Common.{◌≡◌, ◌-◌, ◌<◌, ap, sym, subst, arith, rules}
+use Rattle.std.proofs.Common.{◌-◌, ◌<◌, ap, sym, subst, arith}
 use Rattle.std.specs.VecDeque.{deque_capacity}
 use Rattle.alarm_queue.specs.Order.{InOrder}
 use Rattle.alarm_queue.specs.Capacity.{HasRoom}

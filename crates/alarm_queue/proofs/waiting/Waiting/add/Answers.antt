@@ -1,4 +1,4 @@
-use Rattle.std.proofs.Common.{◌≡◌, true, sym, subst, rules, arith}
+use Rattle.std.proofs.Common.{◌≡◌, true, sym, subst, rules}
 use Rattle.alarm_queue.specs.Order.{due_alarm}
 use Rattle.alarm_queue.specs.Capacity.{has_slot, slots}
 use Rattle.alarm_queue.specs.Waiting.{source_by, is_its_line}

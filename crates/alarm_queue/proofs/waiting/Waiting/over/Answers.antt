@@ -1,11 +1,10 @@
-use Rattle.std.proofs.Common.{◌≡◌, ◌+◌, false, length, vec_len, sym, subst, arith, rules}
+use Rattle.std.proofs.Common.{◌≡◌, ◌+◌, false, vec_len, sym, subst, arith, rules}
 use Rattle.std.specs.Prelude.{All, IsTrue}
 use Rattle.std.specs.List.{filter, filter_map}
 use Rattle.s7_base.specs.Priorities.{is_cyclic}
 use Rattle.alarm_queue.specs.Order.{waits_once}
 use Rattle.alarm_queue.specs.Due.{alarm_of, is_loaded, cyclic_obs}
 use Rattle.alarm_queue.specs.Cursor.{IsPast}
-use Rattle.alarm_queue.specs.Capacity.{QueueState}
 use Rattle.alarm_queue.proofs.CursorLaws.{past_first}
 use Rattle.alarm_queue.proofs.DueLaws.{line_others, line_rising, all_cyclic}
 use Rattle.alarm_queue.proofs.waiting.Waiting.over.Goals as goal
