@@ -3,8 +3,8 @@ ghost use Rattle.s7_base.specs.Blocks.{IsPlayable};
 ghost use Rattle.pair_core.specs.World.{part, first_part};
 ghost use Rattle.pair_core.specs.Places.{IsAt};
 
-use pair_core::*;
 use event_record::Record;
+use pair_core::*;
 use plant_script::read_script;
 use s7_base::{Answer, Ask, Blocks, CodeBlock, CodeKind, Entry, Loss, Request, Side};
 use std::alloc::Global;
