@@ -41,7 +41,7 @@ fn play_pattern(pair: &mut Pair, pattern: &[Side], a: &mut Subsystem, b: &mut Su
     }
 }
 
-#[tactic(auto, using(crate::proofs::Stands::loaded_stands))]
+#[tactic(auto, using(pair_core::proofs::Stands::loaded_stands))]
 fn loaded(alloc: Global, blocks: &Blocks) -> Result<Subsystem, Fail>
     requires { IsPlayable blocks.now }
     ensures { IfOk result (λ s. IsAt blocks.now (first_part true) [] s) }

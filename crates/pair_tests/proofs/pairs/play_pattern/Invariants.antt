@@ -1,7 +1,7 @@
 use Rattle.s7_base.specs.declared.entry.Side.TheVariants.{A, B}
 use Rattle.pair_core.specs.World.{part}
 use Rattle.pair_core.specs.Places.{IsAt}
-use Rattle.pair_core.proofs.tests.play_pattern.Given as goal
+use Rattle.pair_tests.proofs.pairs.play_pattern.Given as goal
 
 -- both subsystems stand where the pair says
 abbrev pub invariant-loop : goal.invariant-loop
