@@ -1,8 +1,6 @@
 pub mod ImageLaws
-pub mod Numbers
 pub mod Pieces
 pub mod Rising
-pub mod ScriptLaws
-pub mod ScriptLines
-pub mod ScriptLoop
+pub mod Texts
 pub mod ValueLaws
+pub mod Values

@@ -1,6 +1,8 @@
 pub mod Fields
+pub mod Form
 pub mod InputImage
+pub mod Lines
+pub mod Numbers
 pub mod Plan
-pub mod ScriptReading
-pub mod ScriptText
 pub mod Values
+pub mod Words

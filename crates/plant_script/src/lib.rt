@@ -3,14 +3,13 @@
 
 mod fields;
 mod input_image;
+mod lines;
+mod numbers;
 mod plan;
 mod script_error;
-mod script_reader;
+mod words;
 
+pub use fields::split_at_byte;
 pub use input_image::InputImage;
 pub use plan::{Event, Module, ModuleKind, Script, What};
 pub use script_error::{ScriptError, ScriptFault};
-pub use script_reader::read_script;
-
-#[cfg(test)]
-mod tests;
