@@ -1,5 +1,5 @@
 -- Numbers as a script writes them.
-use Rattle.std.specs.Prelude.{ℕ, ◌+◌, ◌-◌, ◌*◌, List, [], ◌∷◌, length, ◌==◌, ◌&&◌, not, Bool, Option, Some, None, nat_le, if◌then◌else◌}
+use Rattle.std.specs.Prelude.{ℕ, ◌+◌, ◌-◌, ◌*◌, List, [], ◌∷◌, length, ◌==◌, ◌&&◌, not, Bool, true, false, Option, Some, None, nat_le, nat_lt, if◌then◌else◌}
 use Rattle.std.specs.Str.{all_ascii_digits}
 use Rattle.plant_script.specs.Words.{◌>>=◌, is_empty}
 
@@ -36,3 +36,14 @@ hex_from n (d ∷ ds) = hex_digit d >>= λ v. hex_from (n * 16 + v) ds
 -- the value of exactly so many hexadecimal digits
 unfoldable pub hex_of : ℕ → List ℕ → Option ℕ
 hex_of count word = if length word == count then hex_from 0 word else None
+
+-- the same digits without the zeros at their front
+abbrev pub significant : List ℕ → List ℕ
+significant [] = []
+significant (d ∷ ds) = if d == 48 then significant ds else d ∷ ds
+
+-- the first digit in which both differ is the lower one
+abbrev pub comes_before : List ℕ → List ℕ → Bool
+comes_before [] es = false
+comes_before (d ∷ ds) [] = false
+comes_before (d ∷ ds) (e ∷ es) = if d == e then comes_before ds es else nat_lt d e

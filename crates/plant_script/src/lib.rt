@@ -2,14 +2,15 @@
 #![tactic(auto)]
 
 mod fields;
-mod input_image;
+mod first_pass;
+mod input_index;
 mod lines;
 mod numbers;
 mod plan;
 mod script_error;
+mod second_pass;
 mod words;
 
 pub use fields::split_at_byte;
-pub use input_image::InputImage;
-pub use plan::{Event, Module, ModuleKind, Script, What};
+pub use plan::{Event, Module, ModuleKind, What};
 pub use script_error::{ScriptError, ScriptFault};

@@ -391,7 +391,8 @@ fn late_at(text: &[u8]) -> (bool, &[u8])
 /// Reads a FAIL line behind that word.
 #[tactic(auto, unfolding(crate::specs::Lines::fail_at))]
 fn fail_at(text: &[u8]) -> Option<(What, &[u8])>
-    ensures { option_map (λ p. (p.0, words_of p.1.now)) result ≡ fail_at (words_of text.now) }
+    ensures exact { option_map (λ p. (p.0, words_of p.1.now)) result ≡ fail_at (words_of text.now) }
+    ensures form { IfSome result (λ p. IsWritten p.0) }
 {
     let (side, rest) = side_at(text)?;
     let (late, rest) = late_at(rest);
@@ -401,7 +402,8 @@ fn fail_at(text: &[u8]) -> Option<(What, &[u8])>
 /// Reads a RETURN line behind that word.
 #[tactic(auto, unfolding(crate::specs::Lines::return_at))]
 fn return_at(text: &[u8]) -> Option<(What, &[u8])>
-    ensures { option_map (λ p. (p.0, words_of p.1.now)) result ≡ return_at (words_of text.now) }
+    ensures exact { option_map (λ p. (p.0, words_of p.1.now)) result ≡ return_at (words_of text.now) }
+    ensures form { IfSome result (λ p. IsWritten p.0) }
 {
     let (side, rest) = side_at(text)?;
     Some((What::Return { side, fresh: false }, rest))
@@ -421,7 +423,8 @@ fn pass_of(word: &[u8]) -> Option<bool>
 /// Reads a SUSPECT line behind that word.
 #[tactic(auto, unfolding(crate::specs::Lines::suspect_at))]
 fn suspect_at(text: &[u8]) -> Option<(What, &[u8])>
-    ensures { option_map (λ p. (p.0, words_of p.1.now)) result ≡ suspect_at (words_of text.now) }
+    ensures exact { option_map (λ p. (p.0, words_of p.1.now)) result ≡ suspect_at (words_of text.now) }
+    ensures form { IfSome result (λ p. IsWritten p.0) }
 {
     let (side, rest) = side_at(text)?;
     let (outcome, rest) = next_word(rest)?;
@@ -481,7 +484,8 @@ fn at_at(text: &[u8]) -> Option<(Line, &[u8])>
 /// Reads the END line behind its first word.
 #[tactic(auto, unfolding(crate::specs::Lines::end_at))]
 fn end_at(text: &[u8]) -> Option<(Line, &[u8])>
-    ensures { option_map (λ p. (p.0, words_of p.1.now)) result ≡ end_at (words_of text.now) }
+    ensures exact { option_map (λ p. (p.0, words_of p.1.now)) result ≡ end_at (words_of text.now) }
+    ensures form { IfSome result (λ p. IsLine p.0) }
 {
     let (_, rest) = next_word(text)?;
     Some((Line::End, rest))

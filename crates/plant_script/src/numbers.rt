@@ -1,7 +1,7 @@
 //! Numbers as a script writes them.
-ghost use Rattle.std.specs.Prelude.{◌≡◌, ◌<◌, ◌≤◌, ◌^◌, min, length, IfSome};
+ghost use Rattle.std.specs.Prelude.{◌≡◌, ◌<◌, ◌≤◌, ◌^◌, min, length, nat_lt, IsTrue, IfSome};
 ghost use Rattle.std.specs.Str.{all_ascii_digits};
-ghost use Rattle.plant_script.specs.Numbers.{value_of, is_number, number_within, hex_digit, hex_of};
+ghost use Rattle.plant_script.specs.Numbers.{value_of, is_number, number_within, hex_digit, hex_of, significant, comes_before};
 
 /// Values are told apart up to here: above each number that a script may have.
 pub const CEILING: u32 = 200_001;
@@ -21,7 +21,8 @@ fn are_digits(word: &[u8]) -> bool
 /// Returns whether the word is a decimal number: one digit or more.
 #[tactic(auto, unfolding(crate::specs::Numbers::is_number))]
 pub fn is_number(word: &[u8]) -> bool
-    ensures { result ≡ is_number word.now }
+    ensures exact { result ≡ is_number word.now }
+    ensures digits { IsTrue result → IsTrue (all_ascii_digits word.now) }
 {
     !word.is_empty() && are_digits(word)
 }
@@ -84,4 +85,43 @@ pub fn hex_of(word: &[u8], count: usize) -> Option<u32>
         value = value * 16 + u32::from(low);
     }
     Some(value)
+}
+
+/// Returns whether the value of these decimal digits is below that of the others, however many they are.
+pub fn is_below(digits: &[u8], others: &[u8]) -> bool
+    requires digits { IsTrue (all_ascii_digits digits.now) }
+    requires others { IsTrue (all_ascii_digits others.now) }
+    ensures { result ≡ nat_lt (value_of digits.now) (value_of others.now) }
+{
+    let digits = significant(digits);
+    let others = significant(others);
+    if digits.len() != others.len() {
+        return digits.len() < others.len();
+    }
+    comes_before(digits, others)
+}
+
+/// Returns the digits without the zeros at their front.
+fn significant(digits: &[u8]) -> &[u8]
+    ensures { result.now ≡ significant digits.now }
+{
+    for (i, digit) in digits.iter().enumerate() {
+        if *digit != b'0' {
+            return &digits[i..];
+        }
+    }
+    b""
+}
+
+/// Returns whether the first digit in which both differ is the lower one.
+fn comes_before(digits: &[u8], others: &[u8]) -> bool
+    requires { length digits.now ≡ length others.now }
+    ensures { result ≡ comes_before digits.now others.now }
+{
+    for i in 0..digits.len() {
+        if digits[i] != others[i] {
+            return digits[i] < others[i];
+        }
+    }
+    false
 }
