@@ -1,10 +1,10 @@
 -- The index gives what a scan of the events gives.
-use Rattle.std.proofs.Common.{◌≡◌, ℕ, zero, suc, ◌+◌, ◌*◌, ◌≤◌, ◌<◌, Bool, true, false, cond, eqb, eq-eqb, List, [], ◌∷◌, ◌++◌, length, take, drop, get_or, set, Option, Some, None, inl, inr, refl, sym, ◌∙◌, ap, subst, arith}
+use Rattle.std.proofs.Common.{◌≡◌, ℕ, zero, suc, ◌+◌, ◌*◌, ◌≤◌, ◌<◌, Bool, true, false, cond, eqb, eq-eqb, List, [], ◌∷◌, ◌++◌, length, take, drop, get_or, set, Option, Some, None, inl, inr, refl, sym, ◌∙◌, ap, subst, arith, add-one}
 use Rattle.std.specs.Prelude.{◌&&◌, nat_le, All}
 use Rattle.std.specs.List.{fold, AllPairs}
 use Rattle.std.specs.Option.{option_or}
 use Rattle.std.proofs.lemmas.Bool.{cases_eq, eqb-true, eqb-false, le-leb, lt-leb, and_parts}
-use Rattle.std.proofs.lemmas.List.{length-set, get_or-set_same, get_or-set_other, take-append-drop, get_or-drop, length-drop}
+use Rattle.std.proofs.lemmas.List.{length-set, get_or-set_same, get_or-set_other, take-append-drop, get_or-drop, length-drop, length-append, get_or_default, get_or_past}
 use Rattle.std.proofs.lemmas.List.Sums.{fold-append}
 use Rattle.std.proofs.Math.Seq.{take-suc}
 use Rattle.s7_base.specs.declared.entry.Side.{Side}
@@ -198,3 +198,76 @@ settings_rising at_byte side floor (e ∷ es) rising =
 
 pub are_rising : (at_byte : ℕ) (side : Option Side) (es : List Event) → AllPairs (λ earlier later. earlier.moment ≤ later.moment) es → AreRising (settings_of at_byte side es)
 are_rising at_byte side es pairs = rising_pairs (λ (s : Setting). s.moment) 0 (settings_of at_byte side es) (settings_rising at_byte side 0 es (all_rising (λ (e : Event). e.moment) es pairs))
+
+-- ---- halving a slot
+
+strictly : (k m : ℕ) → k < m + 1 → (k ≡ m → ⊥) → k < m
+strictly k m lt other = omega arith
+
+-- whatever stands for what is past the end
+pub read_is : {X : Type 0} (xs : List X) (i : ℕ) (e : X) → e ≡ get_or xs i e → i < length xs → (d : X) → e ≡ get_or xs i d
+read_is xs i e is inside d = is ∙ get_or_default xs i e d inside
+
+pub lower_half : (settings : List Setting) (middle moment : ℕ) (e : Setting) → AreRising settings → middle < length settings → e ≡ get_or settings middle e → e.moment ≤ moment
+    → (d : Setting) (k : ℕ) → k < middle + 1 → (get_or settings k d).moment ≤ moment
+lower_half settings middle moment e rising inside is due d k lt =
+    let here : (get_or settings middle d).moment ≤ moment = subst (λ (s : Setting). s.moment ≤ moment) (read_is settings middle e is inside d) due in
+    elim (cases_eq k middle) [
+      | inl same ↦ subst (λ (n : ℕ). (get_or settings n d).moment ≤ moment) (sym same) here
+      | inr other ↦ let below : k < middle = strictly k middle lt other in let low = rising k middle d below inside in omega (arith, low, here)
+    ]
+
+pub upper_half : (settings : List Setting) (middle moment : ℕ) (e : Setting) → AreRising settings → middle < length settings → e ≡ get_or settings middle e → moment < e.moment
+    → (d : Setting) (k : ℕ) → middle ≤ k → k < length settings → moment < (get_or settings k d).moment
+upper_half settings middle moment e rising inside is late d k le lt =
+    let here : moment < (get_or settings middle d).moment = subst (λ (s : Setting). moment < s.moment) (read_is settings middle e is inside d) late in
+    elim (cases_eq middle k) [
+      | inl same ↦ subst (λ (n : ℕ). moment < (get_or settings n d).moment) same here
+      | inr other ↦ let above : middle < k = strictly middle k (omega arith) other in let low = rising middle k d above lt in omega (arith, low, here)
+    ]
+
+-- ---- slots without values
+
+still_empty : (slots : List (List Setting)) (k : ℕ) → ((i : ℕ) → get_or slots i [] ≡ []) → get_or (slots ++ [] ∷ []) k [] ≡ []
+still_empty [] zero none = refl
+still_empty [] (suc k) none = refl
+still_empty (s ∷ ss) zero none = none 0
+still_empty (s ∷ ss) (suc k) none = still_empty ss k (λ i. none (suc i))
+
+pub one_empty_more : (slots : List (List Setting)) (n : ℕ) (slot : List Setting) → AreEmpty n slots → slot ≡ [] → AreEmpty (n + 1) (slots ++ slot ∷ [])
+one_empty_more slots n slot empty is =
+    record {
+      size = omega (arith, empty.size, length-append slots (slot ∷ []));
+      none = λ k. subst (λ (s : List Setting). get_or (slots ++ s ∷ []) k [] ≡ []) (sym is) (still_empty slots k empty.none);
+    }
+
+pub no_slots : (slots : List (List Setting)) → slots ≡ [] → AreEmpty 0 slots
+no_slots [] is = record { size = refl; none = λ k. refl }
+no_slots (s ∷ ss) is = absurd cc
+
+-- ---- a look-up
+
+pub none_past : (slots : List (List Setting)) (events : List Event) (at_byte : ℕ) (side : Option Side) (moment : ℕ) → IsIndex slots events → length slots ≤ slot_of at_byte side → None ≡ last_value events at_byte side moment
+none_past slots events at_byte side moment is past =
+    sym (scan_is_search at_byte side moment events
+    ∙ ap (λ (ss : List Setting). last_setting ss moment) (sym (is.each at_byte side) ∙ get_or_past slots (slot_of at_byte side) [] past))
+
+pub slot_is : (slots : List (List Setting)) (events : List Event) (at_byte : ℕ) (side : Option Side) (slot : List Setting) → IsIndex slots events → slot_of at_byte side < length slots
+    → slot ≡ get_or slots (slot_of at_byte side) slot → slot ≡ settings_of at_byte side events
+slot_is slots events at_byte side slot is inside read = read_is slots (slot_of at_byte side) slot read inside [] ∙ is.each at_byte side
+
+pub found : (slots : List (List Setting)) (events : List Event) (at_byte : ℕ) (side : Option Side) (moment : ℕ) (slot : List Setting) (result : Option ℕ)
+    → slot ≡ settings_of at_byte side events → AllPairs (λ earlier later. earlier.moment ≤ later.moment) events → (AreRising slot → result ≡ last_setting slot moment)
+    → result ≡ last_value events at_byte side moment
+found slots events at_byte side moment slot result is rising searched =
+    searched (subst AreRising (sym is) (are_rising at_byte side events rising))
+    ∙ ap (λ (ss : List Setting). last_setting ss moment) is ∙ sym (scan_is_search at_byte side moment events)
+
+-- ---- one event more
+
+pub turn_added : (slots new : List (List Setting)) (events : List Event) (i : ℕ) (d : Event) → IsIndex slots (take i events) → i < length events → IsBelow (get_or events i d).what
+    → new ≡ with_event slots (get_or events i d) → IsIndex new (take (i + 1) events)
+turn_added slots new events i d is lt below e =
+    let added = event_added slots (take i events) (get_or events i d) is below in
+    let front : take (i + 1) events ≡ take i events ++ get_or events i d ∷ [] = rw add-one (take-suc events i d lt) in
+    rw (e, front) added

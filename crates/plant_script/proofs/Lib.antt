@@ -1,8 +1,11 @@
 pub mod Digits
+pub mod ImageLaws
 pub mod IndexLaws
 pub mod Passes
 pub mod Pieces
 pub mod Rising
 pub mod Sound
 pub mod Texts
+pub mod ValueLaws
 pub mod Values
+pub mod Whole

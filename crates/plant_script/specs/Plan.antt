@@ -48,6 +48,15 @@ is_comeback (Suspect side pass) = true
 abbrev pub comebacks : List Event → ℕ
 comebacks events = count_by (λ event. is_comeback event.what) events
 
+-- an ALARM or a JOB line
+abbrev pub is_alarm_or_job : What → Bool
+is_alarm_or_job (Input at_byte side value) = false
+is_alarm_or_job (Alarm ob info) = true
+is_alarm_or_job (Job job) = true
+is_alarm_or_job (Fail side late) = false
+is_alarm_or_job (Return side fresh) = false
+is_alarm_or_job (Suspect side pass) = false
+
 -- reached by whichever side runs
 abbrev pub is_switched : ModuleKind → Bool
 is_switched Switched = true

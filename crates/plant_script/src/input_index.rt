@@ -156,9 +156,10 @@ impl InputIndex {
         ensures { (events : List IsEvent) → IsIndex self.now events → AllPairs (λ earlier later. earlier.moment ≤ later.moment) events → result ≡ last_value events at_byte side k }
     {
         let place = slot_of(at_byte, side);
-        if place >= self.slots.len() {
+        let slots = self.slots.as_slice();
+        if place >= slots.len() {
             return None;
         }
-        self.slots[place].last(k)
+        slots[place].last(k)
     }
 }

@@ -1,6 +1,6 @@
 //! What a plant script says: modules, and events by their moments.
 ghost use Rattle.std.specs.Prelude.{◌≡◌, ◌+◌};
-ghost use Rattle.plant_script.specs.Plan.{stops, has_input, is_comeback};
+ghost use Rattle.plant_script.specs.Plan.{stops, has_input, is_alarm_or_job, is_comeback};
 
 use s7_base::{Job, Side};
 
@@ -80,6 +80,13 @@ impl What {
         ensures { result ≡ stops self.now side }
     {
         matches!(self, What::Fail { side: other, .. } if *other == side)
+    }
+
+    /// Returns whether this is an ALARM or a JOB line.
+    pub(crate) fn is_alarm_or_job(&self) -> bool
+        ensures { result ≡ is_alarm_or_job self.now }
+    {
+        matches!(self, What::Alarm { .. } | What::Job(_))
     }
 
     /// Returns whether this is a RETURN or a SUSPECT line.
