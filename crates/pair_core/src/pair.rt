@@ -188,10 +188,11 @@ impl Pair {
         ensures good { Good self.setup self.world }
 
         // The record is the standard CPU's and lawful, and the showings and the end follow from it; and a subsystem
-        // that stands where the pair says has the lives and the machine of its side.
+        // that stands where the pair says has the lives of its side. Where that side runs, its life is open unless a
+        // visit finds the side cut, and where the life is open its machine is the standard CPU's after its place.
         ensures run { MayEnd self.setup self.world → IsRun self.setup.program self.setup.plan self.setup.solo self.world.log.entries self.world.log.shown result.2 }
         ensures sides { (side : Side) (sub : Part) → IsAt self.setup.program (part self.world side) self.world.log.entries sub
-            → IsSideOf self.setup.program self.setup.plan self.setup.solo self.world.log.entries result.2 side sub }
+            → IsSideOf self.setup.program self.setup.plan self.setup.solo self.world.log.entries self.world.log.shown result.2 side sub }
 
         // Where the run has a tail, the machine of each side that runs is the standard CPU's after all entries.
         ensures last { HasTail result.2 → (side : Side) (sub : Part) → runs (standing_in self.setup self.world.log) side ≡ true

@@ -7,11 +7,10 @@ use Rattle.stl_lex.specs.declared.fault.LoadFault.{LoadFault}
 use Rattle.block_loader.specs.Load.{meaning_of}
 use Rattle.pair_top.specs.declared.faults.Fault.{Fault}
 use Rattle.pair_top.specs.declared.faults.Fault.TheVariants.{Usage, FileFault, TooLong, SourceFault, ScriptFault, SinkFault, NoMemory, Differs}
-use Rattle.pair_top.specs.declared.reading.TheConstants.{LIMIT}
 use Rattle.subsystem.specs.Part.{Part}
 use Rattle.plant_script.specs.Plan.{Plan}
 use Rattle.plant_script.specs.ScriptText.{IsScript}
-use Rattle.pair_top.specs.Reading.{File, WasRead, IsTooLong, IsAccepted, IsPlanned, IsNoSource, IsNoScript, HasFailed, IsNotPlayed, script_not_built}
+use Rattle.pair_top.specs.Reading.{limit, File, WasRead, IsTooLong, IsAccepted, IsPlanned, IsNoSource, IsNoScript, HasFailed, IsNotPlayed, script_not_built}
 use Rattle.pair_top.specs.Orders.{Manner}
 use Rattle.pair_top.specs.Serving.{Written, Account, PlayServed, IsDue, IsDone, Tells, TellsTooMuch, TellsSource, TellsNoSource, TellsScript, TellsNoScript, GivesWhatIsDue}
 
@@ -20,7 +19,7 @@ pub same_bytes : (content : Option (List ℕ)) (bytes told : List ℕ) → conte
 same_bytes content bytes told is read = subst (λ o. IfSome o (λ t. bytes ≡ t)) is read.whole
 
 pub not_long : (file : File) (bytes : List ℕ) → Tells file bytes → IsTooLong file.content → ⊥
-not_long file bytes tells long = let more = subst (λ o. IfSome o (λ t. LIMIT < length t)) tells.told long in let fits = tells.fits in absurd (omega arith)
+not_long file bytes tells long = let more = subst (λ o. IfSome o (λ t. limit < length t)) tells.told long in let fits = tells.fits in absurd (omega arith)
 
 -- a file that tells too much was not read
 pub long_unread : (file : File) (bytes : List ℕ) → TellsTooMuch file → WasRead file.content bytes → ⊥
@@ -138,7 +137,7 @@ module _ (manner : Manner) (source script : File) (sink : Written) (account : Ac
   complete : TellsSource source → TellsScript script → (HasFailed source → ⊥) → (HasFailed script → ⊥) → (Rose sink.before sink.now → ⊥)
       → (fault : Option Fault) → PlayServed manner source script sink account a b fault → IsDone fault
   complete is plan source_reads script_reads takes None s = tt
-  complete is plan source_reads script_reads takes (Some SinkFault) s = takes s.3.3.1
+  complete is plan source_reads script_reads takes (Some SinkFault) s = takes s.3.3.1.0
   complete is plan source_reads script_reads takes (Some NoMemory) s = tt
   complete is plan source_reads script_reads takes (Some (FileFault zero)) s = source_reads s.0
   complete is plan source_reads script_reads takes (Some (FileFault (suc zero))) s = script_reads s.0.2

@@ -7,35 +7,42 @@ use Rattle.block_loader.specs.Load.{meaning_of}
 use Rattle.pair_top.specs.declared.faults.Fault.{Fault}
 use Rattle.pair_top.specs.declared.faults.Fault.TheVariants.{Usage, FileFault, TooLong, SourceFault, ScriptFault, SinkFault, NoMemory, Differs}
 use Rattle.plant_script.specs.declared.script_error.ScriptFault as scripts
-use Rattle.pair_top.specs.declared.reading.TheConstants.{LIMIT}
 use Rattle.plant_script.specs.Plan.{Plan}
 use Rattle.plant_script.specs.ScriptText.{IsScript}
 
--- a file in a call: its content where it is told, and the count of its faults before the call and after it
-pub record File : Type 0 where
+-- the most bytes of a source or a script
+abbrev pub limit : ℕ
+limit = 1048576
+
+-- a file in a call: its content where it is told, the count of its faults before the call and after it, and the promise, where
+-- one was made before the call, that reads of it do not fail
+pub record File : Type 1 where
   pub content : Option (List ℕ)
   pub before : ℕ
   pub now : ℕ
+  pub never_fails : Type 0
 
-abbrev pub file_of : (List ℕ → Option (List ℕ)) → (List ℕ → ℕ) → (List ℕ → ℕ) → List ℕ → File
-file_of content before now name = record { content = content name; before = before name; now = now name }
+-- the file of a name in a call that found the files in one state and left them in another, by what files tell
+abbrev pub file_in : {S : Type 0} → (S → List ℕ → Option (List ℕ)) → (S → List ℕ → ℕ) → (S → List ℕ → Type 0) → S → S → List ℕ → File
+file_in content faults never_fails old new name =
+    record { content = content old name; before = faults old name; now = faults new name; never_fails = never_fails old name }
 
 -- no fault of the file was counted
 abbrev pub IsSteady : File → Type 0
 IsSteady file = file.now ≡ file.before
 
--- a fault of the file was counted
+-- a fault of the file was counted, and reads of it were not promised to be without one
 abbrev pub HasFailed : File → Type 0
-HasFailed file = Rose file.before file.now
+HasFailed file = Rose file.before file.now × (file.never_fails → ⊥)
 
 -- A file was read whole: these are its bytes. Where it tells no content, only their number is known.
 pub record WasRead (content : Option (List ℕ)) (bytes : List ℕ) : Type 0 where
   pub whole : IfSome content (λ told. bytes ≡ told)
-  pub fits : length bytes ≤ LIMIT
+  pub fits : length bytes ≤ limit
 
 -- a file has more bytes than the limit
 abbrev pub IsTooLong : Option (List ℕ) → Type 0
-IsTooLong content = IfSome content (λ told. LIMIT < length told)
+IsTooLong content = IfSome content (λ told. limit < length told)
 
 -- a file was read whole, and its source has this program
 pub record IsLoaded (content : Option (List ℕ)) (program : Program) : Type 0 where

@@ -11,6 +11,7 @@ mod reading;
 mod serve;
 mod words;
 
+pub use fault_text::{exit_status, fault_line, report};
 pub use faults::{Fault, Outcome};
 pub use gates::{Gate, NoGate};
 pub use reading::LIMIT;

@@ -21,7 +21,8 @@ use Rattle.plant_script.specs.declared.lines.Head.{Head}
 use Rattle.plant_script.specs.declared.lines.Head.TheVariants as heads
 use Rattle.plant_script.specs.declared.lines.Line.{Line}
 use Rattle.plant_script.specs.declared.lines.Line.TheVariants.{Skipped, Module as IsModule, At, End}
-use Rattle.plant_script.specs.Words.{◌>>=◌, uncons, is_empty, begins_with}
+use Rattle.s7_base.specs.Optional.{◌>>=◌}
+use Rattle.plant_script.specs.Words.{uncons, is_empty, begins_with}
 use Rattle.plant_script.specs.Numbers.{value_of, is_number, number_within, hex_of}
 
 -- ---- single words
