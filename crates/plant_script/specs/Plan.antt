@@ -1,6 +1,7 @@
 -- What a plant script means: its modules, its events and its end.
 use Rattle.std.specs.Prelude.{◌≡◌, ℕ, ◌≤◌, ◌<◌, ◌+◌, Bool, true, false, ◌&&◌, not, if◌then◌else◌, List, [], ◌∷◌, Option, Some, None, is_some, All, nat_le, nat_lt, count_by}
 use Rattle.std.specs.List.{AllPairs, find}
+use Rattle.std.specs.Option.{option_map}
 use Rattle.s7_base.specs.declared.entry.Side.{Side}
 use Rattle.s7_base.specs.declared.entry.Side.TheVariants.{A, B}
 use Rattle.plant_script.specs.declared.plan.Module.{Module}
@@ -56,6 +57,10 @@ is_alarm_or_job (Job job) = true
 is_alarm_or_job (Fail side late) = false
 is_alarm_or_job (Return side fresh) = false
 is_alarm_or_job (Suspect side pass) = false
+
+-- the line of the first ALARM or JOB event
+unfoldable pub first_alarm_or_job : Plan → Option ℕ
+first_alarm_or_job plan = option_map (λ event. event.line) (find (λ event. is_alarm_or_job event.what) plan.events)
 
 -- reached by whichever side runs
 abbrev pub is_switched : ModuleKind → Bool

@@ -1,8 +1,7 @@
 //! A plant script that was read.
 ghost use Rattle.std.specs.Prelude.{◌≡◌, ◌↔◌, None, All, IfOk, unwrap_or};
 ghost use Rattle.std.specs.List.{find};
-ghost use Rattle.std.specs.Option.{option_map};
-ghost use Rattle.plant_script.specs.Plan.{IsPlan, is_alarm_or_job};
+ghost use Rattle.plant_script.specs.Plan.{IsPlan, is_alarm_or_job, first_alarm_or_job};
 ghost use Rattle.plant_script.specs.Values.{value_by_event, last_value};
 ghost use Rattle.plant_script.specs.InputImage.{plant_value};
 
@@ -102,8 +101,9 @@ impl Script {
     }
 
     /// Returns the line of the first ALARM or JOB event, or None where there is none.
+    #[tactic(auto, unfolding(crate::specs::Plan::first_alarm_or_job))]
     pub fn first_alarm_or_job(&self) -> Option<u32>
-        ensures { result ≡ option_map (λ event. event.line) (find (λ event. is_alarm_or_job event.what) self.now.events) }
+        ensures { result ≡ first_alarm_or_job self.now }
     {
         match alarm_or_job(&self.events) {
             Some(event) => Some(event.line),
