@@ -67,6 +67,9 @@ fn run(alloc: Global, script: &[u8], pattern: &[Side]) -> Result<(Record, Shown,
     let Ok(script) = read_script(alloc, script) else {
         return Err("not a script".into());
     };
+    if script.first_alarm_or_job().is_some() {
+        return Err("not played".into());
+    }
     let Ok(mut pair) = Pair::new(alloc, &blocks, script, false) else {
         return Err("no memory".into());
     };
