@@ -84,15 +84,15 @@ decides (x ∷ xs) (y ∷ ys) same a b =
         let w = first_split y ys in
         elim (cases_lt x y) [
           | inl lt ↦
-            let under : (x - 48) * 10 ^ length ys + value_from 0 xs < (y - 48) * 10 ^ length ys + value_from 0 ys = lower (x - 48) (y - 48) (10 ^ length ys) (value_from 0 xs) (value_from 0 ys) (omega (arith, ix.0)) vs in
-            let both : value_from 0 (x ∷ xs) < value_from 0 (y ∷ ys) = omega (arith, v, w, under) in
-            lt-ltb x y lt ∙ sym (lt-ltb (value_from 0 (x ∷ xs)) (value_from 0 (y ∷ ys)) both)
+              let under : (x - 48) * 10 ^ length ys + value_from 0 xs < (y - 48) * 10 ^ length ys + value_from 0 ys = lower (x - 48) (y - 48) (10 ^ length ys) (value_from 0 xs) (value_from 0 ys) (omega (arith, ix.0)) vs in
+              let both : value_from 0 (x ∷ xs) < value_from 0 (y ∷ ys) = omega (arith, v, w, under) in
+              lt-ltb x y lt ∙ sym (lt-ltb (value_from 0 (x ∷ xs)) (value_from 0 (y ∷ ys)) both)
           | inr le ↦
-            let other : x ≡ y → ⊥ = eqb-false x y is in
-            let gt : y < x = strict x y le other in
-            let under : (y - 48) * 10 ^ length ys + value_from 0 ys < (x - 48) * 10 ^ length ys + value_from 0 xs = lower (y - 48) (x - 48) (10 ^ length ys) (value_from 0 ys) (value_from 0 xs) (omega (arith, iy.0)) ws in
-            let both : value_from 0 (y ∷ ys) ≤ value_from 0 (x ∷ xs) = omega (arith, v, w, under) in
-            le-ltb x y le ∙ sym (le-ltb (value_from 0 (x ∷ xs)) (value_from 0 (y ∷ ys)) both)
+              let other : x ≡ y → ⊥ = eqb-false x y is in
+              let gt : y < x = strict x y le other in
+              let under : (y - 48) * 10 ^ length ys + value_from 0 ys < (x - 48) * 10 ^ length ys + value_from 0 xs = lower (y - 48) (x - 48) (10 ^ length ys) (value_from 0 ys) (value_from 0 xs) (omega (arith, iy.0)) ws in
+              let both : value_from 0 (y ∷ ys) ≤ value_from 0 (x ∷ xs) = omega (arith, v, w, under) in
+              le-ltb x y le ∙ sym (le-ltb (value_from 0 (x ∷ xs)) (value_from 0 (y ∷ ys)) both)
         ]
 
 -- zeros at the front count nothing
@@ -139,12 +139,12 @@ pub length_decides : (xs ys : List ℕ) → all_ascii_digits xs ≡ true → all
 length_decides xs ys a b other =
     elim (cases_lt (length (significant xs)) (length (significant ys))) [
       | inl lt ↦
-        let under = longer (significant xs) (significant ys) (still_digits xs a) (still_digits ys b) (no_zero_first ys) lt in
-        let both : value_from 0 xs < value_from 0 ys = omega (arith, under, same_value xs, same_value ys) in
-        lt-ltb (length (significant xs)) (length (significant ys)) lt ∙ sym (lt-ltb (value_from 0 xs) (value_from 0 ys) both)
+          let under = longer (significant xs) (significant ys) (still_digits xs a) (still_digits ys b) (no_zero_first ys) lt in
+          let both : value_from 0 xs < value_from 0 ys = omega (arith, under, same_value xs, same_value ys) in
+          lt-ltb (length (significant xs)) (length (significant ys)) lt ∙ sym (lt-ltb (value_from 0 xs) (value_from 0 ys) both)
       | inr le ↦
-        let gt : length (significant ys) < length (significant xs) = strict (length (significant xs)) (length (significant ys)) le other in
-        let under = longer (significant ys) (significant xs) (still_digits ys b) (still_digits xs a) (no_zero_first xs) gt in
-        let both : value_from 0 ys ≤ value_from 0 xs = omega (arith, under, same_value xs, same_value ys) in
-        le-ltb (length (significant xs)) (length (significant ys)) le ∙ sym (le-ltb (value_from 0 xs) (value_from 0 ys) both)
+          let gt : length (significant ys) < length (significant xs) = strict (length (significant xs)) (length (significant ys)) le other in
+          let under = longer (significant ys) (significant xs) (still_digits ys b) (still_digits xs a) (no_zero_first xs) gt in
+          let both : value_from 0 ys ≤ value_from 0 xs = omega (arith, under, same_value xs, same_value ys) in
+          le-ltb (length (significant xs)) (length (significant ys)) le ∙ sym (le-ltb (value_from 0 xs) (value_from 0 ys) both)
     ]

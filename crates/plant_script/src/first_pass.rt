@@ -64,7 +64,11 @@ fn needs_side(kind: ModuleKind) -> bool
 fn fits_side(module: &Module, sided: bool) -> bool
     ensures { result ≡ fits_side module.now sided }
 {
-    if needs_side(module.kind) { sided } else { !sided }
+    if needs_side(module.kind) {
+        sided
+    } else {
+        !sided
+    }
 }
 
 /// Returns the module of inputs that has the byte.
@@ -131,8 +135,13 @@ fn goes_back(floor: &[u8], line: Line, time: &[u8]) -> bool
 fn shares_byte(module: &Module, other: &Module) -> bool
     ensures { result ≡ shares_byte module.now other.now }
 {
-    let same = if module.input { other.input } else { !other.input };
-    same && u32::from(module.at_byte) < other.past_end() && u32::from(other.at_byte) < module.past_end()
+    let same = if module.input {
+        other.input
+    } else {
+        !other.input
+    };
+    same && u32::from(module.at_byte) < other.past_end()
+        && u32::from(other.at_byte) < module.past_end()
 }
 
 /// Returns the first module that shares a byte with this one.
@@ -187,13 +196,7 @@ fn is_one_more(events: &[Event], line: Line) -> bool
 
 /// Returns the lowest fault of a line that has a form.
 #[tactic(auto, unfolding(crate::specs::FirstPass::line_fault))]
-fn line_fault(
-    reading: &Reading,
-    number: u32,
-    line: Line,
-    time: &[u8],
-    floor: &[u8],
-) -> Option<u8>
+fn line_fault(reading: &Reading, number: u32, line: Line, time: &[u8], floor: &[u8]) -> Option<u8>
     requires { IsTrue (all_ascii_digits floor.now) }
     ensures exact { result ≡ line_fault (reading_of reading.now (value_of floor.now)) number line time.now }
     ensures timed { result ≡ None → is_bad_time line time.now ≡ false }

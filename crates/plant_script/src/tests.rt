@@ -42,17 +42,41 @@ fn each_line_is_read(rt: HostRuntime) -> Result<(), Fail> {
         (b"  INPUT   1021  0b  ", input(1021, 0x0b)),
         (b"INPUT 1021 FF\r", input(1021, 0xff)),
         (b"ALARM 40 00000000", What::Alarm { ob: 40, info: 0 }),
-        (b"ALARM 047 89abCDEF", What::Alarm { ob: 47, info: 0x89ab_cdef }),
-        (b"ALARM 82 ffffffff", What::Alarm { ob: 82, info: 0xffff_ffff }),
+        (
+            b"ALARM 047 89abCDEF",
+            What::Alarm {
+                ob: 47,
+                info: 0x89ab_cdef,
+            },
+        ),
+        (
+            b"ALARM 82 ffffffff",
+            What::Alarm {
+                ob: 82,
+                info: 0xffff_ffff,
+            },
+        ),
         (b"JOB READ MB 0", job(false, JobArea::M, 0, 1, 0)),
         (b"JOB READ MW 65535", job(false, JobArea::M, 65_535, 2, 0)),
         (b"JOB READ MD 007", job(false, JobArea::M, 7, 4, 0)),
-        (b"JOB READ DB 65535 B 1", job(false, JobArea::Db(65_535), 1, 1, 0)),
-        (b"JOB READ DB 1 D 65535", job(false, JobArea::Db(1), 65_535, 4, 0)),
+        (
+            b"JOB READ DB 65535 B 1",
+            job(false, JobArea::Db(65_535), 1, 1, 0),
+        ),
+        (
+            b"JOB READ DB 1 D 65535",
+            job(false, JobArea::Db(1), 65_535, 4, 0),
+        ),
         (b"JOB WRITE MB 9 fE", job(true, JobArea::M, 9, 1, 0xfe)),
         (b"JOB WRITE MW 10 0005", job(true, JobArea::M, 10, 2, 5)),
-        (b"JOB WRITE DB 2 W 4 a1B2", job(true, JobArea::Db(2), 4, 2, 0xa1b2)),
-        (b"JOB WRITE DB 0 D 0 01020304", job(true, JobArea::Db(0), 0, 4, 0x0102_0304)),
+        (
+            b"JOB WRITE DB 2 W 4 a1B2",
+            job(true, JobArea::Db(2), 4, 2, 0xa1b2),
+        ),
+        (
+            b"JOB WRITE DB 0 D 0 01020304",
+            job(true, JobArea::Db(0), 0, 4, 0x0102_0304),
+        ),
         (b"FAIL A", fail(Side::A, false)),
         (b"FAIL B LATE", fail(Side::B, true)),
     ];
@@ -141,9 +165,21 @@ fn each_fault_has_its_line(rt: HostRuntime) -> Result<(), Fail> {
         (b"AT 1 RETURN A\nAT 0 FAIL A\nEND 9", 3, 2),
         (b"AT 9 FAIL A\nAT 09 ALARM 40 0\nEND 9", 1, 2),
         (b"AT 5 FAIL A\nAT 04 ALARM 40 00000000\nEND 9", 3, 2),
-        (b"AT 99999999999999999999 FAIL A\nAT 99999999999999999998 FAIL B\nEND 9", 3, 2),
-        (b"MODULE IN 0 4 SWITCHED\nMODULE IN 3 1 SWITCHED\nEND 5", 4, 2),
-        (b"MODULE OUT 8 8 SWITCHED\nMODULE OUT 0 9 ONESIDED A\nEND 5", 4, 2),
+        (
+            b"AT 99999999999999999999 FAIL A\nAT 99999999999999999998 FAIL B\nEND 9",
+            3,
+            2,
+        ),
+        (
+            b"MODULE IN 0 4 SWITCHED\nMODULE IN 3 1 SWITCHED\nEND 5",
+            4,
+            2,
+        ),
+        (
+            b"MODULE OUT 8 8 SWITCHED\nMODULE OUT 0 9 ONESIDED A\nEND 5",
+            4,
+            2,
+        ),
         (b"MODULE IN 0 4 SWITCHED\nAT 1 INPUT 4 00\nEND 9", 5, 2),
         (b"MODULE OUT 0 4 SWITCHED\nAT 1 INPUT 0 00\nEND 9", 5, 2),
         (b"AT 1 INPUT 99999999999999999999 00\nEND 9", 5, 1),
@@ -155,10 +191,22 @@ fn each_fault_has_its_line(rt: HostRuntime) -> Result<(), Fail> {
         (b"AT 5 RETURN A\nEND 9", 8, 1),
         (b"AT 1 FAIL A\nAT 2 FAIL B\nAT 3 FAIL A LATE\nEND 9", 8, 3),
         (b"AT 1 FAIL A\nAT 1 RETURN A\nEND 9", 8, 2),
-        (b"AT 1 FAIL A\nAT 2 RETURN A\nAT 2 FAIL A\nAT 3 FAIL A\nEND 9", 8, 4),
+        (
+            b"AT 1 FAIL A\nAT 2 RETURN A\nAT 2 FAIL A\nAT 3 FAIL A\nEND 9",
+            8,
+            4,
+        ),
         // What is not supported yet.
-        (b"\nMODULE OUT 0 1 SWITCHED\nMODULE IN 0 1 REDUNDANT 1000\nEND 9", 99, 3),
-        (b"AT 1 FAIL A\nAT 2 ALARM 40 00000000\nAT 3 RETURN A\nAT 3 SUSPECT B PASS\nEND 9", 99, 3),
+        (
+            b"\nMODULE OUT 0 1 SWITCHED\nMODULE IN 0 1 REDUNDANT 1000\nEND 9",
+            99,
+            3,
+        ),
+        (
+            b"AT 1 FAIL A\nAT 2 ALARM 40 00000000\nAT 3 RETURN A\nAT 3 SUSPECT B PASS\nEND 9",
+            99,
+            3,
+        ),
     ];
     for (text, kind, line) in texts {
         assert!(rt; text.len() < 200);
@@ -188,7 +236,12 @@ fn long_scripts_are_refused(rt: HostRuntime) -> Result<(), Fail> {
         (b"\n", 20_001, b"", Some((7, 20_001))),
         (b"AT 1 SUSPECT A FAIL\n", 64, b"END 5", Some((99, 1))),
         (b"AT 1 SUSPECT A FAIL\n", 65, b"END 5", Some((7, 65))),
-        (b"AT 1 SUSPECT A FAIL\n", 64, b"AT 1 RETURN A\nEND 5", Some((7, 65))),
+        (
+            b"AT 1 SUSPECT A FAIL\n",
+            64,
+            b"AT 1 RETURN A\nEND 5",
+            Some((7, 65)),
+        ),
     ];
     for (line, count, last, fault) in texts {
         let text = repeated(alloc, line, count, last)?;
@@ -211,10 +264,15 @@ fn long_scripts_are_refused(rt: HostRuntime) -> Result<(), Fail> {
 
 #[test]
 fn modules_may_touch(rt: HostRuntime) -> Result<(), Fail> {
-    let text = b"# a plant\r\nMODULE IN 4 4 SWITCHED\nMODULE IN 0 4 SWITCHED\r\nMODULE OUT 0 64 SWITCHED\n\nMODULE IN 1023 1 SWITCHED\nEND 200000\n \n#\n";
+    let text =
+        b"# a plant\r\nMODULE IN 4 4 SWITCHED\nMODULE IN 0 4 SWITCHED\r\nMODULE OUT 0 64 SWITCHED\n\nMODULE IN 1023 1 SWITCHED\nEND 200000\n \n#\n";
     let script = read_script(rt.alloc(), text)?;
-    let lines: [(u32, bool, u16, u16); 4] =
-        [(2, true, 4, 4), (3, true, 0, 4), (4, false, 0, 64), (6, true, 1023, 1)];
+    let lines: [(u32, bool, u16, u16); 4] = [
+        (2, true, 4, 4),
+        (3, true, 0, 4),
+        (4, false, 0, 64),
+        (6, true, 1023, 1),
+    ];
     assert_eq!(rt; script.modules().len(), 4);
     for (i, (line, input, at_byte, len)) in lines.iter().copied().enumerate() {
         let kind = ModuleKind::Switched;
@@ -234,7 +292,8 @@ fn modules_may_touch(rt: HostRuntime) -> Result<(), Fail> {
 
 #[test]
 fn values_follow_the_lines(rt: HostRuntime) -> Result<(), Fail> {
-    let text = b"MODULE IN 0 2 SWITCHED\nMODULE IN 64 1 SWITCHED\nAT 0 INPUT 1 10\nAT 2 INPUT 0 01\nAT 2 FAIL A\nAT 2 INPUT 0 02\nAT 3 ALARM 40 00000000\nAT 4 INPUT 64 40\nAT 4 INPUT 1 20\nEND 5\n";
+    let text =
+        b"MODULE IN 0 2 SWITCHED\nMODULE IN 64 1 SWITCHED\nAT 0 INPUT 1 10\nAT 2 INPUT 0 01\nAT 2 FAIL A\nAT 2 INPUT 0 02\nAT 3 ALARM 40 00000000\nAT 4 INPUT 64 40\nAT 4 INPUT 1 20\nEND 5\n";
     let script = read_script(rt.alloc(), text)?;
     assert_eq!(rt; script.first_alarm_or_job(), Some(7));
     let mut image = InputImage::new();
@@ -258,7 +317,11 @@ fn values_follow_the_lines(rt: HostRuntime) -> Result<(), Fail> {
         expected[1] = second.unwrap_or(0);
         assert_eq!(rt; image.bytes(), expected);
     }
-    let stops = script.events().iter().filter(|event| event.what.stops(Side::A)).count();
+    let stops = script
+        .events()
+        .iter()
+        .filter(|event| event.what.stops(Side::A))
+        .count();
     assert_eq!(rt; stops, 1);
     Ok(())
 }

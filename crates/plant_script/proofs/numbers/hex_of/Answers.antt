@@ -31,7 +31,7 @@ returns-in_err-low-clause-exact c =
     let i = c.loop-digit.digit-index in
     let here : drop i c.args.word.now ≡ get_or c.args.word.now i 0 ∷ drop (i + 1) c.args.word.now = rw add-one (drop-cons c.args.word.now i 0 c.loop-digit-test.true) in
     let none : hex_from 0 c.args.word.now ≡ None =
-        sym c.loop-digit.invariant.same ∙ ap (λ (ds : List ℕ). hex_from c.loop-digit.value ds) here
-        ∙ hex_stops c.loop-digit.value (get_or c.args.word.now i 0) (drop (i + 1) c.args.word.now) (sym c.in_err-low.ensures.exact) in
+    sym c.loop-digit.invariant.same ∙ ap (λ (ds : List ℕ). hex_from c.loop-digit.value ds) here
+    ∙ hex_stops c.loop-digit.value (get_or c.args.word.now i 0) (drop (i + 1) c.args.word.now) (sym c.in_err-low.ensures.exact) in
     let fits : eqb (length c.args.word.now) c.args.count ≡ true = eq-eqb (length c.args.word.now) c.args.count c.if-word-count.false in
     c.from_residual.ensures ∙ sym (rw (fits, none) refl)

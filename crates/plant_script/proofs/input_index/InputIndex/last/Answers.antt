@@ -17,7 +17,7 @@ returns c = λ events is rising.
     let size : length c.as_slice-slots.result.now ≡ length c.args.self.now = ap (λ (ss : List (List Setting)). length ss) slots in
     let inside : slot_of c.args.at_byte c.args.side < length c.args.self.now = omega (arith, size) in
     let read : c.index-slots-place.result ≡ get_or c.args.self.now (slot_of c.args.at_byte c.args.side) c.index-slots-place.result =
-        c.index-slots-place.is ∙ ap (λ (ss : List (List Setting)). get_or ss c.slot_of-place.result c.index-slots-place.result) slots
-        ∙ ap (λ n. get_or c.args.self.now n c.index-slots-place.result) c.slot_of-place.ensures in
+    c.index-slots-place.is ∙ ap (λ (ss : List (List Setting)). get_or ss c.slot_of-place.result c.index-slots-place.result) slots
+    ∙ ap (λ n. get_or c.args.self.now n c.index-slots-place.result) c.slot_of-place.ensures in
     found c.args.self.now events c.args.at_byte c.args.side c.args.k c.index-slots-place.result c.last.result
     (slot_is c.args.self.now events c.args.at_byte c.args.side c.index-slots-place.result is inside read) rising c.last.ensures
