@@ -1,6 +1,6 @@
 -- The script for a day of n moments.
 use Rattle.std.specs.Prelude.{ℕ, ◌*◌, ◌-◌, ◌/◌, ◌%◌, ◌==◌, List, [], ◌∷◌, ◌++◌, if◌then◌else◌, codes}
-use Rattle.std.specs.List.{flat_map, map, range_with_len}
+use Rattle.std.specs.List.{flat_map, range_with_len}
 use Rattle.std.specs.Fmt.{decimal}
 use Rattle.load_maker.specs.Lines.{text_of, hex_byte}
 
@@ -24,17 +24,19 @@ loss_lines n m = if m == 100 * (n / 200) then (codes "AT " ++ (decimal m ++ code
 abbrev pub moment_lines : ℕ → ℕ → List (List ℕ)
 moment_lines n m = input_lines m ++ (alarm_lines m ++ loss_lines n m)
 
--- the number of full hundreds above 0 and below n
-abbrev pub hundreds : ℕ → ℕ
-hundreds n = (n - 1) / 100
+-- what happens at the k-th full hundred
+abbrev pub hundred_lines : ℕ → ℕ → List (List ℕ)
+hundred_lines n k = moment_lines n (100 * k)
+
+-- what happens at each full hundred above 0 and below n
+abbrev pub all_moment_lines : ℕ → List (List ℕ)
+all_moment_lines n = flat_map (hundred_lines n) (range_with_len 1 ((n - 1) / 100))
 
 abbrev pub end_lines : ℕ → List (List ℕ)
 end_lines n = (codes "END " ++ decimal n) ∷ []
 
--- the modules, what happens at each full hundred above 0 and below n, and the end
 abbrev pub script_lines : ℕ → List (List ℕ)
-script_lines n =
-    module_lines ++ (flat_map (λ k. moment_lines n (100 * k)) (range_with_len 1 (hundreds n)) ++ end_lines n)
+script_lines n = module_lines ++ (all_moment_lines n ++ end_lines n)
 
 abbrev pub script_text : ℕ → List ℕ
 script_text n = text_of (script_lines n)

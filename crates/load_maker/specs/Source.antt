@@ -39,9 +39,16 @@ function_lines i =
     ∷ codes "END_FUNCTION"
     ∷ []
 
--- the organization blocks, and a function for each full thousand of moments
+-- OB1 and OB40
+abbrev pub organization_block_lines : List (List ℕ)
+organization_block_lines = main_lines ++ alarm_ob_lines
+
+-- a function for each full thousand of moments
+abbrev pub all_function_lines : ℕ → List (List ℕ)
+all_function_lines n = flat_map function_lines (range_with_len 1 (n / 1000))
+
 abbrev pub source_lines : ℕ → List (List ℕ)
-source_lines n = main_lines ++ (alarm_ob_lines ++ flat_map function_lines (range_with_len 1 (n / 1000)))
+source_lines n = organization_block_lines ++ all_function_lines n
 
 abbrev pub source_text : ℕ → List ℕ
 source_text n = text_of (source_lines n)
