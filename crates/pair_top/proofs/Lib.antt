@@ -1,3 +1,4 @@
+pub mod ConnectsDue
 pub mod Due
 pub mod Later
 pub mod LoadsDue
