@@ -1,6 +1,6 @@
 -- The exit of a loop of reading by an error, as it is told.
 use Rattle.std.proofs.Common.{◌≡◌}
-use Rattle.std.specs.Prelude.{Result, Ok, Err}
+use Rattle.std.specs.Prelude.{Result, Err}
 use Rattle.stl_lex.specs.declared.fault.LoadFault.{LoadFault}
 use Rattle.block_loader.specs.Told.{Fails, Gives}
 use Rattle.block_loader.specs.declared.error.LoadError.{LoadError}

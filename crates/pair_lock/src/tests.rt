@@ -104,7 +104,7 @@ fn a_try_inside_a_meeting_finds_the_turn_held(rt: HostRuntime) -> Result<(), Fai
     };
     assert!(rt; held);
     let Ok((b, ())) = lock.try_meet(b, |_| ()) else {
-        return Err("the turn was given".into());
+        return Err("the turn was not given".into());
     };
     drop((lock, a, b));
     Ok(())

@@ -1,0 +1,3 @@
+pub mod Frames
+pub mod Last
+pub mod Running

@@ -1,0 +1,4 @@
+pub mod Inside
+pub mod Levels
+pub mod StartInfo
+pub mod Values

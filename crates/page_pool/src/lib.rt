@@ -1,0 +1,13 @@
+//! A pool of pages of 256 bytes: the region is taken once, and a page is held by one owner at a time.
+#![tactic(auto)]
+
+mod pool;
+
+pub use pool::{Contents, PAGE_BYTES, Page, Pool};
+
+/// Memory ran out.
+#[derive(Clone, Copy, Debug, PartialEq, Eq)]
+pub struct NoMemory;
+
+#[cfg(test)]
+mod tests;
