@@ -1,13 +1,13 @@
 -- The local bytes of the blocks of a level.
 use Rattle.std.proofs.Common.{◌≡◌, ℕ, zero, suc, ◌+◌, ◌-◌, ◌<◌, ◌≤◌, List, [], ◌∷◌, ◌++◌, length, take, drop, replicate, refl, sym, ap, ◌∙◌, get_or, arith, length-append, length-drop}
-use Rattle.std.proofs.lemmas.List.{length-take-le, take-append-le, drop-append-le, take_all, drop_all, take-append-drop, take-take, drop-take, drop-drop, length-replicate}
+use Rattle.std.proofs.lemmas.List.{length-take-le, take-append-le, drop-append-le, take_all, take-append-drop, take-take, drop-take, drop-drop, length-replicate}
 use Rattle.std.proofs.lemmas.List.Sums.{sum_by-cons, sum_by_push}
 use Rattle.std.specs.Prelude.{sum_by}
 use Rattle.std.specs.List.{refill}
 use Rattle.std.specs.Int.{bytes_high_first}
 use Rattle.s7_base.specs.declared.blocks.BlockRef.{BlockRef}
 use Rattle.level_stack.specs.declared.level.Frame.{Frame}
-use Rattle.level_stack.specs.Levels.{FrameState, local_count, last_of, without_last, with_last, top_locals, locals_in}
+use Rattle.level_stack.specs.Levels.{FrameState, local_count, without_last, with_last, top_locals, locals_in}
 use Rattle.level_stack.specs.Values.{overwritten}
 use Rattle.level_stack.specs.Inside.{frames_in}
 use Rattle.level_stack.proofs.Last.{last_of-append, without_last-append, with_last-append, get_last, split_last, refill-same}

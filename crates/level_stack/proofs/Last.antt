@@ -1,5 +1,5 @@
 -- The last of a list.
-use Rattle.std.proofs.Common.{◌≡◌, ℕ, ◌+◌, ◌-◌, ◌<◌, ◌≤◌, List, [], ◌∷◌, ◌++◌, length, take, drop, get_or, set, Some, Result, Ok, Err, refl, sym, ap, ◌∙◌, subst, arith, length-append, append-nil}
+use Rattle.std.proofs.Common.{◌≡◌, ℕ, suc, ◌-◌, ◌<◌, List, [], ◌∷◌, ◌++◌, length, take, get_or, set, Some, Result, Ok, Err, refl, sym, ap, ◌∙◌, arith, length-append, append-nil}
 use Rattle.std.proofs.lemmas.List.{take_at, take_all, drop_all, set-append_right, length-set}
 use Rattle.std.proofs.Math.Seq.{get_or-append_seam}
 use Rattle.std.proofs.lemmas.Option.{slice_get-get_or}
@@ -25,6 +25,11 @@ module _ {A : Type 0} where
   with_last-append f [] x = refl
   with_last-append f (y ∷ []) x = refl
   with_last-append f (y ∷ z ∷ xs) x = ap (λ l. y ∷ l) (with_last-append f (z ∷ xs) x)
+
+  pub length-with_last : (f : A → A) (xs : List A) → length (with_last f xs) ≡ length xs
+  length-with_last f [] = refl
+  length-with_last f (x ∷ []) = refl
+  length-with_last f (x ∷ y ∷ rest) = ap suc (length-with_last f (y ∷ rest))
 
   pub get_last : (xs : List A) (x d : A) → get_or (xs ++ x ∷ []) (length (xs ++ x ∷ []) - 1) d ≡ x
   get_last xs x d =
@@ -81,3 +86,8 @@ module _ {A : Type 0} where
   pub put_last_ok : {E : Type 0} (r : Result (Unit {0}) E) (f : A → A) (xs now all : List A) (n : ℕ) (d y : A) → now ≡ xs → n ≡ length xs → xs ≡ all → 0 < length all → OnOk r (y ≡ f (get_or now (n - 1) d)) → OnOk r (refill (length xs) xs (set now (n - 1) y) ≡ with_last f all)
   put_last_ok (Ok u) f xs now all n d y e m v h g = put_last f xs now all n d y e m v h g
   put_last_ok (Err x) f xs now all n d y e m v h g = g
+
+  -- as many as before
+  pub length-put : (xs now all : List A) (i : ℕ) (y : A) → now ≡ xs → xs ≡ all → length (refill (length xs) xs (set now i y)) ≡ length all
+  length-put xs now all i y e v =
+      ap (λ l. length (refill (length xs) xs (set l i y))) e ∙ ap length (refill-set xs i y) ∙ length-set xs i y ∙ ap length v

@@ -1,5 +1,5 @@
 -- A block that runs does so on a level.
-use Rattle.std.proofs.Common.{◌≡◌, ℕ, ◌+◌, ◌<◌, ◌≤◌, List, [], ◌∷◌, length, inl, inr, arith}
+use Rattle.std.proofs.Common.{ℕ, ◌+◌, ◌<◌, ◌≤◌, List, [], ◌∷◌, length, inl, inr, arith}
 use Rattle.level_stack.specs.Values.{IsWidth}
 use Rattle.level_stack.specs.Levels.{FrameState, LevelState, top_locals, running_frames, running_locals}
 

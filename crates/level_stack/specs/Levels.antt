@@ -1,5 +1,5 @@
 -- What contracts see of the levels of a CPU.
-use Rattle.std.specs.Prelude.{ℕ, ◌+◌, ◌-◌, List, [], ◌∷◌, ◌++◌, length, take, drop, replicate, sum_by, slice_get, Option, Some, None}
+use Rattle.std.specs.Prelude.{ℕ, ◌-◌, List, [], ◌∷◌, ◌++◌, length, take, replicate, sum_by, slice_get, Option, Some, None}
 use Rattle.std.specs.Int.{bytes_high_first}
 use Rattle.s7_base.specs.declared.blocks.BlockRef.{BlockRef}
 use Rattle.level_stack.specs.Values.{overwritten}

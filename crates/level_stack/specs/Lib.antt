@@ -1,3 +1,4 @@
+pub mod CallerLaw
 pub mod Inside
 pub mod Levels
 pub mod StartInfo

@@ -74,6 +74,7 @@ impl Levels {
         ensures local { (result ≡ Err LevelFault.LocalFull) ↔ ((length (running_frames self.old) < 24) × (256 < local_count (running_frames self.old) + temp)) }
         ensures entered { OnOk result (self.new ≡ with_last (entered block temp) self.old) }
         ensures refused { OnErr result (self.new ≡ self.old) }
+        ensures levels { length self.new ≡ length self.old }
     {
         let top = self.levels.len() - 1;
         let level = &mut self.levels.as_mut_slice()[top];
@@ -83,7 +84,8 @@ impl Levels {
     /// Ends the block that runs. Its local bytes are gone, and the block that had called it runs on.
     pub fn leave(&mut self)
         requires { 0 < length (running_frames self.old) }
-        ensures { self.new ≡ with_last left self.old }
+        ensures left { self.new ≡ with_last left self.old }
+        ensures levels { length self.new ≡ length self.old }
     {
         let top = self.levels.len() - 1;
         let level = &mut self.levels.as_mut_slice()[top];
@@ -107,7 +109,11 @@ impl Levels {
         requires width { IsWidth width }
         requires fits { value < 2 ^ (8 * width) }
         requires holds { at_byte + width ≤ length (running_locals self.old) }
-        ensures { self.new ≡ with_last (written at_byte width value) self.old }
+        ensures written { self.new ≡ with_last (written at_byte width value) self.old }
+
+        // What was written is read there.
+        ensures reads { value_of (slice_range (running_locals self.new) at_byte (at_byte + width)) ≡ value }
+        ensures levels { length self.new ≡ length self.old }
     {
         let top = self.levels.len() - 1;
         let level = &mut self.levels.as_mut_slice()[top];

@@ -19,7 +19,7 @@ mod plays;
 mod values;
 
 /// The definitions give the requests that were worked out by hand.
-#[tactic(auto, using(crate::proofs::Row::rung_asks))]
+#[tactic(auto, using(mc_machine::proofs::Row::rung_asks))]
 fn the_definitions_play_the_rung()
     ensures { asked rung rung_answers ≡ rung_requests }
 {}

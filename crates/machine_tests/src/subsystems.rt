@@ -1,10 +1,10 @@
 ghost use Rattle.std.specs.Prelude.{IfOk, IfSome};
 ghost use Rattle.s7_base.specs.Blocks.{IsPlayable};
 
-use subsystem::*;
 use s7_base::{Answer, Area, Ask, Blocks, CodeBlock, CodeKind, DiagCode, Request};
 use std::alloc::Global;
 use std::test::Fail;
+use subsystem::*;
 
 fn empty_program(alloc: Global) -> Result<Option<Blocks>, Fail>
     ensures { IfOk result (λ blocks. IfSome blocks IsPlayable) }

@@ -1,6 +1,7 @@
 //! The pair.
-ghost use Rattle.std.specs.Prelude.{ℕ, true, false, ◌≡◌, ◌+◌, ◌||◌, Some, is_some, length, IfOk};
+ghost use Rattle.std.specs.Prelude.{ℕ, true, false, ◌≡◌, ◌+◌, ◌||◌, Some, None, is_some, length, IfOk};
 ghost use mathlib.Core.List.{IsPrefix};
+ghost use Rattle.plant_script.specs.Plan.{first_alarm_or_job};
 ghost use Rattle.pair_core.specs.Sides.{other_side, runs};
 ghost use Rattle.pair_core.specs.Turns.{is_over};
 ghost use Rattle.pair_core.specs.World.{part, step, ended, standing_in, first_world};
@@ -53,6 +54,8 @@ impl Pair {
     /// A pair that was not visited yet, for these blocks and this script, with both sides, or with side A alone.
     #[tactic(auto, using(crate::proofs::Visits::good_first))]
     pub fn new(alloc: Global, blocks: &Blocks, script: Script, solo: bool) -> Result<Pair, NoMemory>
+        // Alarms and jobs are not answered yet.
+        requires { first_alarm_or_job script ≡ None }
         ensures setup { IfOk result (λ pair. pair.setup ≡ record { program = blocks.now; plan = script; solo = solo }) }
         ensures world { IfOk result (λ pair. pair.world ≡ first_world solo) }
         ensures good { IfOk result (λ pair. Good pair.setup pair.world) }

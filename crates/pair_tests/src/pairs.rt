@@ -3,8 +3,8 @@ ghost use Rattle.s7_base.specs.Blocks.{IsPlayable};
 ghost use Rattle.pair_core.specs.World.{part, first_part};
 ghost use Rattle.pair_core.specs.Places.{IsAt};
 
-use pair_core::*;
 use event_record::Record;
+use pair_core::*;
 use plant_script::read_script;
 use s7_base::{Answer, Ask, Blocks, CodeBlock, CodeKind, Entry, Loss, Request, Side};
 use std::alloc::Global;
@@ -41,7 +41,7 @@ fn play_pattern(pair: &mut Pair, pattern: &[Side], a: &mut Subsystem, b: &mut Su
     }
 }
 
-#[tactic(auto, using(crate::proofs::Stands::loaded_stands))]
+#[tactic(auto, using(pair_core::proofs::Stands::loaded_stands))]
 fn loaded(alloc: Global, blocks: &Blocks) -> Result<Subsystem, Fail>
     requires { IsPlayable blocks.now }
     ensures { IfOk result (λ s. IsAt blocks.now (first_part true) [] s) }
@@ -67,6 +67,9 @@ fn run(alloc: Global, script: &[u8], pattern: &[Side]) -> Result<(Record, Shown,
     let Ok(script) = read_script(alloc, script) else {
         return Err("not a script".into());
     };
+    if script.first_alarm_or_job().is_some() {
+        return Err("not played".into());
+    }
     let Ok(mut pair) = Pair::new(alloc, &blocks, script, false) else {
         return Err("no memory".into());
     };

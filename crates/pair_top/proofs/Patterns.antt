@@ -9,7 +9,8 @@ use Rattle.std.specs.Char.{is_ascii_digit}
 use Rattle.std.proofs.lemmas.Bool.Decides.{nat_tests}
 use Rattle.s7_base.specs.declared.entry.Side.{Side}
 use Rattle.s7_base.specs.Optional.{◌>>=◌}
-use Rattle.pair_top.specs.Fields.{split_at, value_from}
+use Rattle.plant_script.specs.Fields.{split_at}
+use Rattle.pair_top.specs.Fields.{value_from}
 use Rattle.pair_top.proofs.Pieces.{split_takes}
 use Rattle.pair_top.specs.Pattern.{most_letters, most_times, most_visits, side_of, sides_from, sides_of, times_by, Repeated, visits_of_part, part_of, onto_first, pieces, parts_of, visits_in, visits_by, visits_of}
 

@@ -5,7 +5,8 @@ use Rattle.std.specs.Str.{all_ascii_digits}
 use Rattle.s7_base.specs.declared.entry.Side.{Side}
 use Rattle.s7_base.specs.declared.entry.Side.TheVariants.{A, B}
 use Rattle.s7_base.specs.Optional.{◌>>=◌}
-use Rattle.pair_top.specs.Fields.{split_at, value_from}
+use Rattle.plant_script.specs.Fields.{split_at}
+use Rattle.pair_top.specs.Fields.{value_from}
 
 -- a part has at most 64 letters, which are repeated at most 1,000,000 times; a pattern has at most 4,000,000 visits
 abbrev pub most_letters : ℕ

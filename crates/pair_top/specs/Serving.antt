@@ -16,10 +16,11 @@ use Rattle.subsystem.specs.Part.{Part, IsNew, IsOpen, first_life}
 use Rattle.pair_core.specs.Played.{IsRun, IsSideOf, answers_of}
 use Rattle.pair_core.specs.World.{Setup, World, first_world, play}
 use Rattle.pair_core.specs.Finished.{ended_by}
-use Rattle.pair_top.specs.Reading.{limit, File, IsSteady, HasFailed, IsTooLong, IsAccepted, IsPlanned, IsNoSource, IsNoScript, IsNotPlayed, script_not_built}
+use Rattle.pair_top.specs.Reading.{limit, File, IsSteady, HasFailed, IsTooLong, IsAccepted, IsPlanned, IsNoSource, IsNoScript, IsNotPlayed, played_script}
 use Rattle.stl_lex.specs.declared.fault.LoadFault.{LoadFault}
 use Rattle.block_loader.specs.Load.{meaning_of}
-use Rattle.plant_script.specs.ScriptText.{IsScript}
+use Rattle.plant_script.specs.declared.script_error.ScriptFault as scripts
+use Rattle.plant_script.specs.SecondPass.{script_of}
 use Rattle.pair_core.specs.CpuTail.{tail_of}
 use Rattle.pair_core.specs.Tail.{Tail}
 use Rattle.pair_core.specs.Text.{HasTail, text}
@@ -134,7 +135,7 @@ IsRefusal source script (TooLong zero) = IsTooLong source.content
 IsRefusal source script (TooLong (suc zero)) = (program : Program) × IsAccepted source.content program × IsTooLong script.content
 IsRefusal source script (TooLong (suc (suc n))) = ⊥
 IsRefusal source script (SourceFault fault) = IsNoSource source.content fault
-IsRefusal source script (ScriptFault fault) = (fault ≡ script_not_built) × (program : Program) × IsAccepted source.content program × IsNoScript script.content
+IsRefusal source script (ScriptFault fault) = (program : Program) × IsAccepted source.content program × IsNoScript script.content fault
 IsRefusal source script NoMemory = Unit {0}
 IsRefusal source script Usage = ⊥
 IsRefusal source script SinkFault = ⊥
@@ -225,18 +226,18 @@ pub record TellsNoSource (file : File) (due : LoadFault) : Type 0 where
   pub tells : Tells file bytes
   pub cause : IsNotPlayed due (meaning_of bytes)
 
--- a file tells a plant script
+-- a file tells a plant script that is played
 pub record TellsScript (file : File) : Type 0 where
   pub bytes : List ℕ
   pub tells : Tells file bytes
   pub plan : Plan
-  pub script : IsScript bytes plan
+  pub script : played_script (script_of bytes) ≡ Ok plan
 
--- a file tells bytes that are no plant script
-pub record TellsNoScript (file : File) : Type 0 where
+-- a file tells a plant script that isn't played, with this fault
+pub record TellsNoScript (file : File) (due : scripts.ScriptFault) : Type 0 where
   pub bytes : List ℕ
   pub tells : Tells file bytes
-  pub none : (plan : Plan) → IsScript bytes plan → ⊥
+  pub cause : played_script (script_of bytes) ≡ Err due
 
 -- Each refusal that is due comes, but for a file that fails before it, or want of memory; and where nothing is due and
 -- nothing outside fails, the command is done to its end, but for want of memory.
@@ -244,6 +245,6 @@ pub record GivesWhatIsDue (source script : File) (sink : Written) (fault : Optio
   pub long_source : TellsTooMuch source → IsDue 0 (TooLong 0) fault
   pub no_source : (due : LoadFault) → TellsNoSource source due → IsDue 0 (SourceFault due) fault
   pub long_script : TellsSource source → TellsTooMuch script → IsDue 1 (TooLong 1) fault
-  pub no_script : TellsSource source → TellsNoScript script → IsDue 1 (ScriptFault script_not_built) fault
+  pub no_script : (due : scripts.ScriptFault) → TellsSource source → TellsNoScript script due → IsDue 1 (ScriptFault due) fault
   pub complete : TellsSource source → TellsScript script → (HasFailed source → ⊥) → (HasFailed script → ⊥)
       → (Rose sink.before sink.now → ⊥) → IsDone fault

@@ -3,7 +3,6 @@
 
 mod fault_text;
 mod faults;
-mod fields;
 mod gates;
 mod pattern;
 mod play;

@@ -4,7 +4,7 @@ ghost use Rattle.std.specs.Option.{option_map};
 ghost use Rattle.pair_top.specs.Pattern.{most_letters, most_times, side_of, sides_of, times_of, part_of, pieces, visits_of};
 ghost use Rattle.pair_top.specs.PatternView.{part_view, pieces_left};
 
-use crate::fields::split_at_byte;
+use plant_script::split_at_byte;
 use s7_base::Side;
 
 /// How often the letters of a part are played at most.

@@ -1,5 +1,6 @@
 //! Reads the files of a command.
-ghost use Rattle.std.specs.Prelude.{◌≡◌, ℕ, List, IfOk, IfErr, OnOk};
+ghost use Rattle.plant_script.specs.Plan.{first_alarm_or_job};
+ghost use Rattle.std.specs.Prelude.{◌≡◌, ℕ, List, None, IfOk, IfErr, OnOk};
 ghost use Rattle.s7_base.specs.Blocks.{IsPlayable};
 ghost use Rattle.pair_top.specs.Reading.{file_in, WasRead, IsLoaded, IsAccepted, IsPlanned, IsReadRefusal, IsLoadRefusal, IsSourceRefusal, IsScriptRefusal, CountsOnly};
 ghost use Rattle.pair_top.specs.Connecting.{IsConnected, IsConnectRefusal};
@@ -79,9 +80,10 @@ pub fn read_blocks<F: Files>(alloc: Global, files: &mut F, name: &[u8]) -> Resul
     Ok(blocks)
 }
 
-/// The plant script of this name.
+/// The plant script of this name, which has no alarm and no job.
 pub fn read_plant<F: Files>(alloc: Global, files: &mut F, name: &[u8]) -> Result<Script, Fault>
     ensures read { IfOk result (IsPlanned (F.content files.old name.now)) }
+    ensures plain { IfOk result (λ script. first_alarm_or_job script ≡ None) }
     ensures refused { IfErr result (IsScriptRefusal (file_in F.content F.faults F.never_fails files.old files.new name.now)) }
     ensures stays { (other : List ℕ) → F.content files.new other ≡ F.content files.old other }
     ensures promises { (other : List ℕ) → F.never_fails files.old other → F.never_fails files.new other }
@@ -89,11 +91,16 @@ pub fn read_plant<F: Files>(alloc: Global, files: &mut F, name: &[u8]) -> Result
     ensures steady { IfErr result (λ fault. (other : List ℕ) → CountsOnly fault (file_in F.content F.faults F.never_fails files.old files.new other)) }
 {
     let bytes = read_file(alloc, files, name, 1)?;
-    match read_script(alloc, &bytes) {
-        Ok(script) => Ok(script),
-        Err(ScriptError::Fault(fault)) => Err(Fault::ScriptFault(fault)),
-        Err(ScriptError::NoMemory) => Err(Fault::NoMemory),
+    let script = match read_script(alloc, &bytes) {
+        Ok(script) => script,
+        Err(ScriptError::Fault(fault)) => return Err(Fault::ScriptFault(fault)),
+        Err(ScriptError::NoMemory) => return Err(Fault::NoMemory),
+    };
+    if let Some(line) = script.first_alarm_or_job() {
+        let kind = NOT_BUILT;
+        return Err(Fault::ScriptFault(ScriptFault { kind, line }));
     }
+    Ok(script)
 }
 
 /// What playing the events of the file of this name gives.

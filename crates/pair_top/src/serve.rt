@@ -1,6 +1,7 @@
 //! The top call.
-ghost use Rattle.std.specs.Prelude.{◌≡◌, ◌≤◌, ◌↔◌, ℕ, List, true, Some, IsNone, IfOk, IfErr, OnOk, OnErr};
+ghost use Rattle.std.specs.Prelude.{◌≡◌, ◌≤◌, ◌↔◌, ℕ, List, true, None, Some, None, IsNone, IfOk, IfErr, OnOk, OnErr};
 ghost use Rattle.s7_base.specs.Blocks.{IsPlayable};
+ghost use Rattle.plant_script.specs.Plan.{first_alarm_or_job};
 ghost use Rattle.subsystem.specs.Part.{IsNew, IsOpen};
 ghost use Rattle.pair_core.specs.declared.endings.Mode.{Mode};
 ghost use Rattle.pair_core.specs.World.{first_world, play};
@@ -44,6 +45,7 @@ fn read_both<F: Files>(
 ) -> Result<(Blocks, Script), Fault>
     ensures source { IfOk result (λ both. IsAccepted (F.content files.old source.now) both.0) }
     ensures playable { IfOk result (λ both. IsPlayable both.0) }
+    ensures plain { IfOk result (λ both. first_alarm_or_job both.1 ≡ None) }
     ensures script { IfOk result (λ both. IsPlanned (F.content files.old script.now) both.1) }
     ensures refused { IfErr result (IsRefusal
         (file_in F.content F.faults F.never_fails files.old files.new source.now)
@@ -70,6 +72,7 @@ fn open(
     requires a { IsNew a.old }
     requires b { IsNew b.old }
     requires playable { IsPlayable blocks.now }
+    requires plain { first_alarm_or_job script ≡ None }
     ensures setup { IfOk result (λ pair. pair.setup ≡ setup_of blocks.now script solo) }
     ensures world { IfOk result (λ pair. pair.world ≡ first_world solo) }
     ensures alone { solo ≡ true → IfOk result (λ pair. IsAlone pair.setup pair.world 0) }
@@ -147,6 +150,7 @@ fn play_and_write<K: Sink>(
     requires a { IsNew a.old }
     requires b { IsNew b.old }
     requires playable { IsPlayable blocks.now }
+    requires plain { first_alarm_or_job script ≡ None }
     requires patterns { ArePatterns visits }
     ensures status { result.status ≡ status_of result.fault }
     ensures played { IsOutcome (manner_in visits.entry) blocks.now script

@@ -1,8 +1,8 @@
 ghost use Rattle.std.specs.Prelude.{◌≤◌, length};
 
-use stl_decl::*;
 use std::alloc::Global;
 use std::test::Fail;
+use stl_decl::*;
 use stl_lex::{LoadFault, Tokens, tokens};
 
 fn tokens_of(alloc: Global, text: &[u8]) -> Result<Tokens, Fail> {

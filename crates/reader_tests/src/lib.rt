@@ -4,6 +4,6 @@
 #[cfg(test)]
 mod declarations;
 #[cfg(test)]
-mod statements;
-#[cfg(test)]
 mod sources;
+#[cfg(test)]
+mod statements;

@@ -1,9 +1,9 @@
-use stl_reader::*;
 use s7_base::CodeKind;
 use std::alloc::Global;
 use std::test::Fail;
 use stl_decl::{Layout, declarations};
 use stl_lex::tokens;
+use stl_reader::*;
 
 /// Each statement as operation, area, bit, number of the data block and value; or a fault as 1000, its kind and its
 /// line.

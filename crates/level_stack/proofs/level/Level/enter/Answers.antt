@@ -1,5 +1,5 @@
 -- How many blocks have begun, and how many local bytes they have; and the block that begins.
-use Rattle.std.proofs.Common.{ℕ, List, ◌∷◌, [], ◌++◌, length, replicate, refl, ap, ◌∙◌, arith}
+use Rattle.std.proofs.Common.{List, ◌∷◌, [], ◌++◌, length, ap, ◌∙◌, arith}
 use Rattle.level_stack.specs.Levels.{FrameState, LevelState, local_count, entered}
 use Rattle.level_stack.specs.Inside.{frames_in}
 use Rattle.level_stack.proofs.Frames.{length-frames_in, local_count-frames_in, entering}

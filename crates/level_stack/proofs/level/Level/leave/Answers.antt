@@ -1,5 +1,5 @@
 -- The last block goes with its local bytes.
-use Rattle.std.proofs.Common.{◌≡◌, ℕ, ◌-◌, List, ◌∷◌, [], ◌++◌, length, take, sym, ap, ◌∙◌}
+use Rattle.std.proofs.Common.{◌-◌, List, length, take, sym, ap, ◌∙◌}
 use Rattle.level_stack.specs.Levels.{FrameState, LevelState, without_last, left}
 use Rattle.level_stack.specs.Inside.{frames_in}
 use Rattle.level_stack.proofs.Frames.{wants, leaving}

@@ -1,5 +1,5 @@
 -- The local bytes of the block that runs are the last of the level's.
-use Rattle.std.proofs.Common.{◌≡◌, ℕ, ◌-◌, ◌<◌, length, drop, get_or, ap, ◌∙◌, arith}
+use Rattle.std.proofs.Common.{◌≡◌, ◌-◌, ◌<◌, length, drop, get_or, ap, ◌∙◌, arith}
 use Rattle.std.proofs.lemmas.List.{take_rest}
 use Rattle.s7_base.specs.declared.blocks.CodeKind.TheVariants.{Ob}
 use Rattle.level_stack.specs.declared.level.Frame.{Frame}

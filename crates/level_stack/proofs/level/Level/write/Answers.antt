@@ -1,12 +1,12 @@
 -- A piece of the level's last local bytes is written.
-use Rattle.std.proofs.Common.{◌≡◌, ℕ, ◌+◌, ◌-◌, ◌<◌, ◌≤◌, List, length, sym, ap, ◌∙◌, arith}
+use Rattle.std.proofs.Common.{◌≡◌, ◌+◌, ◌-◌, ◌<◌, ◌≤◌, List, length, ap, ◌∙◌, arith}
 use Rattle.std.specs.List.{refill}
 use Rattle.std.specs.Int.{bytes_high_first}
 use Rattle.level_stack.specs.Values.{overwritten}
 use Rattle.level_stack.specs.Levels.{FrameState, LevelState, top_locals, written}
 use Rattle.level_stack.specs.Inside.{frames_in}
 use Rattle.level_stack.proofs.Frames.{length-frames_in, length-bytes_high_first, top_within, written_top}
-use Rattle.level_stack.proofs.Running.{not_narrow, block_begun}
+use Rattle.level_stack.proofs.Running.{block_begun}
 use Rattle.level_stack.proofs.level.Level.write.Goals as goal
 
 pub overflow_sub-from : goal.overflow_sub-from
