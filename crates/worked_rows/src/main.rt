@@ -1,7 +1,7 @@
 //! Plays the worked rows and the examples. Each is a folder with the words of a command and the files that these name; the lists of
 //! the folders are the files `rows` and `examples`. Standard output is the text of each row, after a line with its name and before a
 //! line with its exit status and the line that the program prints on a fault. Of an example it says whether what was written is
-//! the text that stands beside it. Then come the refusals of an outside that has no capacity.
+//! the text that stands beside it, whose name the list gives. Then come the refusals of an outside that has no capacity.
 #![tactic(auto)]
 
 mod opener;
@@ -35,10 +35,11 @@ fn show_row<R: Threads + Wait + Sync + Files + Print + Alloc<A = Global>>(
     Ok(())
 }
 
-/// Plays an example, and compares what it writes with the file `written` of its folder.
+/// Plays an example, and compares what it writes with the file of this name in its folder.
 fn show_example<R: Threads + Wait + Sync + Files + Print + Alloc<A = Global>>(
     rt: &R,
     folder: &str,
+    name: &str,
 ) -> anyhow::Result<()> {
     let alloc = rt.alloc();
     let mut files = RealFiles::new(RowOpener::new(rt, alloc, folder));
@@ -46,7 +47,7 @@ fn show_example<R: Threads + Wait + Sync + Files + Print + Alloc<A = Global>>(
         .ok()
         .context("no memory")?;
     let fault = play(rt, folder, &mut files, &mut sink)?;
-    let text = fs::read(rt, format!(in alloc; "{folder}/written")?.as_str())?;
+    let text = fs::read(rt, format!(in alloc; "{folder}/{name}")?.as_str())?;
     let finding = if sink.written() == text.as_slice() {
         "as written"
     } else {
@@ -63,8 +64,9 @@ fn main(rt: HostRuntime) -> anyhow::Result<()> {
         show_row(&rt, folder)?;
     }
     let examples = fs::read_to_string(&rt, "examples")?;
-    for folder in examples.as_str().lines() {
-        show_example(&rt, folder)?;
+    for example in examples.as_str().lines() {
+        let (folder, name) = example.split_once(' ').context("a folder and a file")?;
+        show_example(&rt, folder, name)?;
     }
     show_refusals(&rt)
 }
