@@ -27,7 +27,7 @@ module _ (file later : File) (content : later.content ≡ file.content) (before 
       (program, accepted, subst (λ o. IsTooLong o) content r.1)
   script_refused source program accepted (TooLong (suc (suc n))) r = let is : suc (suc n) ≡ 1 = r.0 in absurd (omega arith)
   script_refused source program accepted (ScriptFault fault) r =
-      (r.0, program, accepted, subst (λ o. IsNoScript o) content r.1)
+      (program, accepted, subst (λ o. IsNoScript o fault) content r)
   script_refused source program accepted NoMemory r = tt
   script_refused source program accepted Usage r = absurd r
   script_refused source program accepted (SourceFault fault) r = absurd r

@@ -1,4 +1,3 @@
-pub mod ConnectsDue
 pub mod Due
 pub mod Later
 pub mod LoadsDue
