@@ -2,4 +2,4 @@ pub mod CursorLaws
 pub mod DueLaws
 pub mod Once
 pub mod OrderLaws
-pub mod RoomLaws
+pub mod CapacityLaws

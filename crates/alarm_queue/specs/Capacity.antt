@@ -46,7 +46,7 @@ count_others [] = 0
 count_others (x ∷ xs) = (if waits_once x.ob then 0 else 1) + count_others xs
 
 -- there is capacity for so many more others, and for each slot
-pub record HasRoom (modules : List ℕ) (more capacity : ℕ) (xs : List DueAlarm) : Type 0 where
+pub record HasCapacity (modules : List ℕ) (more capacity : ℕ) (xs : List DueAlarm) : Type 0 where
   pub once : AreOnce xs
   pub slots : HaveSlots (slots modules) xs
   pub fits : count_others xs + more + 10 + length modules ≤ capacity
@@ -59,4 +59,4 @@ pub record QueueState : Type 0 where
 
 pub record IsQueue (alarms : List DueAlarm) (modules : List ℕ) (more capacity : ℕ) : Type 0 where
   pub order : InOrder alarms
-  pub room : HasRoom modules more capacity alarms
+  pub enough : HasCapacity modules more capacity alarms

@@ -36,7 +36,7 @@ impl Model for Queue {
 /// Puts the alarm into its place. Takes no memory.
 fn insert(alarms: &mut VecDeque<DueAlarm>, alarm: DueAlarm)
     requires order { InOrder alarms.old.items }
-    requires room { deque_len alarms.old < deque_capacity alarms.old }
+    requires capacity { deque_len alarms.old < deque_capacity alarms.old }
     ensures items { alarms.new.items ≡ insert alarm alarms.old.items }
     ensures capacity { deque_capacity alarms.old ≤ deque_capacity alarms.new }
 {

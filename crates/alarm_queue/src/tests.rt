@@ -2,7 +2,7 @@ ghost use Rattle.std.specs.Prelude.{◌≡◌, ◌≤◌};
 
 use crate::queue::Queue;
 use crate::*;
-use plant_script::{Event, Module, ModuleKind, What};
+use plant_script::{Event, Module, ModuleKind, What, read_script};
 use s7_base::{Answer, Blocks, CodeBlock, CodeKind, Loss, Side};
 use std::alloc::Global;
 use std::test::Fail;
@@ -166,6 +166,19 @@ fn the_pair_adds_alarms(rt: HostRuntime) -> Result<(), Fail> {
     for wanted in expected {
         assert_eq!(rt; answered(&mut waiting), wanted);
     }
+    Ok(())
+}
+
+#[test]
+fn the_lines_of_a_script_make_alarms_due(rt: HostRuntime) -> Result<(), Fail> {
+    let alloc = rt.alloc();
+    let blocks = program(alloc, &[])?;
+    let script = read_script(alloc, b"AT 0 ALARM 40 0000000A\nEND 1\n")?;
+    let Ok(mut waiting) = Waiting::new(alloc, &script, &blocks) else {
+        return Err("no memory".into());
+    };
+    waiting.due(0);
+    assert_eq!(rt; answered(&mut waiting), (40, 10));
     Ok(())
 }
 

@@ -5,7 +5,7 @@ use Rattle.std.proofs.lemmas.List.{length-map}
 use Rattle.std.proofs.lemmas.Bool.Decides.{nat_tests}
 use Rattle.alarm_queue.specs.declared.alarm.DueAlarm.{DueAlarm}
 use Rattle.alarm_queue.specs.Order.{is_before, line_of, insert, is_same, waits, waits_once, tail}
-use Rattle.alarm_queue.specs.Capacity.{Slot, module_slot, slots, is_of_slot, has_slot, HaveSlots, AreOnce, count_others, HasRoom}
+use Rattle.alarm_queue.specs.Capacity.{Slot, module_slot, slots, is_of_slot, has_slot, HaveSlots, AreOnce, count_others, HasCapacity}
 
 same_numbers : (lx ly ox oy : ℕ) → (lx == ly && ox == oy) ≡ (ly == lx && oy == ox)
 same_numbers lx ly ox oy = grind (arith, nat_tests)
@@ -143,18 +143,18 @@ count_slots modules = omega (arith, length-map modules module_slot)
 
 -- the capacity --
 
-pub fits_other : (modules : List ℕ) (more capacity : ℕ) (xs : List DueAlarm) → HasRoom modules more capacity xs → 0 < more → length xs < capacity
+pub fits_other : (modules : List ℕ) (more capacity : ℕ) (xs : List DueAlarm) → HasCapacity modules more capacity xs → 0 < more → length xs < capacity
 fits_other modules more capacity xs h some = omega (arith, h.fits, few xs (slots modules) h.once h.slots, count_slots modules)
 
-pub fits_once : (modules : List ℕ) (more capacity : ℕ) (xs : List DueAlarm) (x : DueAlarm) → HasRoom modules more capacity xs → waits_once x.ob ≡ true → waits x xs ≡ false → has_slot (slots modules) x ≡ true
+pub fits_once : (modules : List ℕ) (more capacity : ℕ) (xs : List DueAlarm) (x : DueAlarm) → HasCapacity modules more capacity xs → waits_once x.ob ≡ true → waits x xs ≡ false → has_slot (slots modules) x ≡ true
     → length xs < capacity
 fits_once modules more capacity xs x h of_x none slot =
     let counted : count_others (x ∷ xs) ≡ count_others xs = rw of_x (omega arith) in
     omega (arith, h.fits, few (x ∷ xs) (slots modules) ((λ o. none), h.once) ((λ o. slot), h.slots), count_slots modules, counted)
 
-pub room_other : (modules : List ℕ) (more capacity larger : ℕ) (xs : List DueAlarm) (x : DueAlarm) → HasRoom modules more capacity xs → 0 < more → waits_once x.ob ≡ false → capacity ≤ larger
-    → HasRoom modules (more - 1) larger (insert x xs)
-room_other modules more capacity larger xs x h some of_x le =
+pub capacity_other : (modules : List ℕ) (more capacity larger : ℕ) (xs : List DueAlarm) (x : DueAlarm) → HasCapacity modules more capacity xs → 0 < more → waits_once x.ob ≡ false → capacity ≤ larger
+    → HasCapacity modules (more - 1) larger (insert x xs)
+capacity_other modules more capacity larger xs x h some of_x le =
     let counted : count_others (insert x xs) ≡ 1 + count_others xs = count_inserted x xs ∙ (rw of_x refl) in
     record {
       once = once_inserted x xs h.once (λ o. absurd (cc (o, of_x)));
@@ -162,9 +162,9 @@ room_other modules more capacity larger xs x h some of_x le =
       fits = omega (arith, h.fits, counted);
     }
 
-pub room_once : (modules : List ℕ) (more capacity larger : ℕ) (xs : List DueAlarm) (x : DueAlarm) → HasRoom modules more capacity xs → waits_once x.ob ≡ true → waits x xs ≡ false → has_slot (slots modules) x ≡ true → capacity ≤ larger
-    → HasRoom modules more larger (insert x xs)
-room_once modules more capacity larger xs x h of_x none slot le =
+pub capacity_once : (modules : List ℕ) (more capacity larger : ℕ) (xs : List DueAlarm) (x : DueAlarm) → HasCapacity modules more capacity xs → waits_once x.ob ≡ true → waits x xs ≡ false → has_slot (slots modules) x ≡ true → capacity ≤ larger
+    → HasCapacity modules more larger (insert x xs)
+capacity_once modules more capacity larger xs x h of_x none slot le =
     let counted : count_others (insert x xs) ≡ 0 + count_others xs = count_inserted x xs ∙ (rw of_x refl) in
     record {
       once = once_inserted x xs h.once (λ o. none);
@@ -172,9 +172,9 @@ room_once modules more capacity larger xs x h of_x none slot le =
       fits = omega (arith, h.fits, counted);
     }
 
-pub room_left : (modules : List ℕ) (more capacity : ℕ) (xs : List DueAlarm) → HasRoom modules more capacity xs → HasRoom modules more capacity (tail xs)
-room_left modules more capacity [] h = h
-room_left modules more capacity (x ∷ xs) h = record {
+pub capacity_left : (modules : List ℕ) (more capacity : ℕ) (xs : List DueAlarm) → HasCapacity modules more capacity xs → HasCapacity modules more capacity (tail xs)
+capacity_left modules more capacity [] h = h
+capacity_left modules more capacity (x ∷ xs) h = record {
   once = h.once.1;
   slots = h.slots.1;
   fits = omega (arith, h.fits);
