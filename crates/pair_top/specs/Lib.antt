@@ -1,3 +1,4 @@
+pub mod Connecting
 pub mod FaultText
 pub mod Fields
 pub mod Loading

@@ -9,7 +9,8 @@ use Rattle.subsystem.specs.Part.{Part}
 use Rattle.pair_top.specs.declared.faults.Fault.{Fault}
 use Rattle.pair_top.specs.declared.faults.Fault.TheVariants.{Usage, FileFault, TooLong, SourceFault, SinkFault}
 use Rattle.pair_top.specs.Reading.{File, IsSteady, HasFailed, IsLoaded, IsLoadRefusal}
-use Rattle.pair_top.specs.Orders.{Order, play, load}
+use Rattle.pair_top.specs.Orders.{Order, play, load, connect}
+use Rattle.pair_top.specs.Connecting.{ConnectServed, ConnectsWhatIsDue}
 use Rattle.pair_top.specs.Serving.{Written, Account, IsQuiet, IsUnplayed, IsWriting, PlayServed, AreSteady, AreNew, IsDue, IsDone, Tells, TellsTooMuch, GivesWhatIsDue}
 
 -- a source was read whole, nothing was played, and the text of its blocks was written
@@ -36,6 +37,8 @@ Served (Some (play manner source script)) file sink account a b fault =
     PlayServed manner (file source) (file script) sink account a b fault × AreSteady fault (file source) (file script)
 Served (Some (load source)) file sink account a b fault =
     LoadServed (file source) sink account fault × IsSteadyUnless fault (file source) × AreNew a b
+Served (Some (connect events)) file sink account a b fault =
+    ConnectServed (file events) sink account fault × IsSteadyUnless fault (file events) × AreNew a b
 
 -- completeness --
 
@@ -63,3 +66,4 @@ abbrev pub DueServed : Option Order → (List ℕ → File) → Written → Opti
 DueServed None file sink fault = Unit {0}
 DueServed (Some (play manner source script)) file sink fault = GivesWhatIsDue (file source) (file script) sink fault
 DueServed (Some (load source)) file sink fault = LoadsWhatIsDue (file source) sink fault
+DueServed (Some (connect events)) file sink fault = ConnectsWhatIsDue (file events) sink fault

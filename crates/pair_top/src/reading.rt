@@ -3,9 +3,11 @@ ghost use Rattle.plant_script.specs.Plan.{first_alarm_or_job};
 ghost use Rattle.std.specs.Prelude.{◌≡◌, ℕ, List, None, IfOk, IfErr, OnOk};
 ghost use Rattle.s7_base.specs.Blocks.{IsPlayable};
 ghost use Rattle.pair_top.specs.Reading.{file_in, WasRead, IsLoaded, IsAccepted, IsPlanned, IsReadRefusal, IsLoadRefusal, IsSourceRefusal, IsScriptRefusal, CountsOnly};
+ghost use Rattle.pair_top.specs.Connecting.{IsConnected, IsConnectRefusal};
 
 use crate::Fault;
 use block_loader::{LoadError, load};
+use ft_connection::{ConnError, play};
 use pair_io::{Files, FilesError};
 use plant_script::{Script, ScriptError, ScriptFault, read_script};
 use s7_base::Blocks;
@@ -99,4 +101,25 @@ pub fn read_plant<F: Files>(alloc: Global, files: &mut F, name: &[u8]) -> Result
         return Err(Fault::ScriptFault(ScriptFault { kind, line }));
     }
     Ok(script)
+}
+
+/// What playing the events of the file of this name gives.
+pub fn play_connection<F: Files>(
+    alloc: Global,
+    files: &mut F,
+    name: &[u8],
+) -> Result<ft_connection::Played, Fault>
+    ensures played { IfOk result (IsConnected (F.content files.old name.now)) }
+    ensures refused { IfErr result (IsConnectRefusal (file_in F.content F.faults F.never_fails files.old files.new name.now)) }
+    ensures stays { (other : List ℕ) → F.content files.new other ≡ F.content files.old other }
+    ensures promises { (other : List ℕ) → F.never_fails files.old other → F.never_fails files.new other }
+    ensures counts { OnOk result ((other : List ℕ) → F.faults files.new other ≡ F.faults files.old other) }
+    ensures steady { IfErr result (λ fault. (other : List ℕ) → CountsOnly fault (file_in F.content F.faults F.never_fails files.old files.new other)) }
+{
+    let bytes = read_file(alloc, files, name, 1)?;
+    match play(alloc, &bytes) {
+        Ok(played) => Ok(played),
+        Err(ConnError::Fault { kind, line }) => Err(Fault::ScriptFault(ScriptFault { kind, line })),
+        Err(ConnError::NoMemory) => Err(Fault::NoMemory),
+    }
 }

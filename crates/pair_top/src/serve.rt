@@ -14,15 +14,17 @@ ghost use Rattle.pair_top.specs.Orders.{is_alone, visits_for};
 ghost use Rattle.pair_top.specs.Playing.{AreAt, of_side};
 ghost use Rattle.pair_top.specs.Serving.{AreNew, AreUnused, IsRefusal, AreSteady, IsFinished, ComesToTail, IsWriting, IsOutcome, PlayServed, IsUnplayed, setup_of, account_of, sink_in, GivesWhatIsDue};
 ghost use Rattle.pair_top.specs.Loading.{LoadServed, IsSteadyUnless, LoadsWhatIsDue, Served, DueServed};
+ghost use Rattle.pair_top.specs.Connecting.{ConnectServed, ConnectsWhatIsDue};
 ghost use Rattle.pair_top.specs.Statuses.{status_of};
 ghost use Rattle.pair_top.specs.Words.{command_of, words_of};
 ghost use Rattle.pair_top.specs.WordsView.{order_of, manner_in, IsReadable, ArePatterns};
 
 use crate::fault_text::exit_status;
 use crate::play::{Played, Visits, finish, play_visits};
-use crate::reading::{load_source, read_blocks, read_plant};
+use crate::reading::{load_source, play_connection, read_blocks, read_plant};
 use crate::words::{Command, command_from};
 use crate::{Fault, Gate, Outcome};
+use ft_connection::ConnText;
 use pair_core::{Mode, Pair, begins};
 use pair_io::{Files, Sink};
 use plant_script::Script;
@@ -241,6 +243,44 @@ fn serve_load<F: Files, K: Sink>(
     }
 }
 
+/// Writes the text of a connection.
+fn write_connection<K: Sink>(alloc: Global, sink: &mut K, text: &ConnText) -> Outcome
+    ensures status { result.status ≡ status_of result.fault }
+    ensures unplayed { IsUnplayed (account_of result.entries.entries result.shown.list result.ended) }
+    ensures written { IsWriting text.now
+        (sink_in K.written K.faults K.takes sink.old sink.new) result.fault }
+{
+    match sink.write(text.as_slice()) {
+        Ok(()) => Outcome::quiet(alloc),
+        Err(_) => Outcome::refused(alloc, Fault::SinkFault),
+    }
+}
+
+/// The command that plays the events of the file of this name.
+fn serve_connect<F: Files, K: Sink>(
+    alloc: Global,
+    events: &[u8],
+    files: &mut F,
+    sink: &mut K,
+) -> Outcome
+    ensures status { result.status ≡ status_of result.fault }
+    ensures served { ConnectServed
+        (file_in F.content F.faults F.never_fails files.old files.new events.now)
+        (sink_in K.written K.faults K.takes sink.old sink.new)
+        (account_of result.entries.entries result.shown.list result.ended) result.fault }
+    ensures steady { IsSteadyUnless result.fault
+        (file_in F.content F.faults F.never_fails files.old files.new events.now) }
+    ensures words { result.fault ≡ Some Fault.Usage → ⊥ }
+    ensures due { ConnectsWhatIsDue
+        (file_in F.content F.faults F.never_fails files.old files.new events.now)
+        (sink_in K.written K.faults K.takes sink.old sink.new) result.fault }
+{
+    match play_connection(alloc, files, events) {
+        Ok(played) => write_connection(alloc, sink, &played.text),
+        Err(fault) => Outcome::refused(alloc, fault),
+    }
+}
+
 /// Does what a command says.
 fn serve_command<F: Files, K: Sink>(
     alloc: Global,
@@ -265,6 +305,7 @@ fn serve_command<F: Files, K: Sink>(
 {
     match command {
         Command::Load { source } => serve_load(alloc, source, files, sink),
+        Command::Connect { events } => serve_connect(alloc, events, files, sink),
         Command::Solo { source, script } => {
             serve_play(alloc, source, script, Visits::Alone, files, sink, a, b)
         }
@@ -285,8 +326,9 @@ fn serve_command<F: Files, K: Sink>(
     }
 }
 
-/// Does what the words say, on the caller's thread: `load SOURCE` tells the blocks of a source, `solo SOURCE SCRIPT`
-/// plays side A alone, and `turns SOURCE SCRIPT PATTERN` plays both sides by the letters of the pattern.
+/// Does what the words say, on the caller's thread: `load SOURCE` tells the blocks of a source, `connect EVENTS` plays the events
+/// of a connection, `solo SOURCE SCRIPT` plays side A alone, and `turns SOURCE SCRIPT PATTERN` plays both sides by the letters of
+/// the pattern.
 ///
 /// `a` and `b` are as `Subsystem::new` made them. Waits for nobody, and always returns.
 pub fn serve_alone<F: Files, K: Sink>(
@@ -301,7 +343,8 @@ pub fn serve_alone<F: Files, K: Sink>(
     requires b { IsNew b.old }
     ensures status { result.status ≡ status_of result.fault }
 
-    // What the command answers and leaves: the play and its text, the text of the blocks, or the cause of the refusal.
+    // What the command answers and leaves: the play and its text, the text of the blocks or of the connection, or the cause of the
+    // refusal.
     ensures served { Served (command_of (words_of words.now))
         (file_in F.content F.faults F.never_fails files.old files.new)
         (sink_in K.written K.faults K.takes sink.old sink.new)
@@ -338,7 +381,8 @@ pub fn s7h_top<R: Threads + Wait + Sync, F: Files, K: Sink, G: Gate + Sync>(
     requires b { IsNew b.old }
     ensures status { result.status ≡ status_of result.fault }
 
-    // What the command answers and leaves: the play and its text, the text of the blocks, or the cause of the refusal.
+    // What the command answers and leaves: the play and its text, the text of the blocks or of the connection, or the cause of the
+    // refusal.
     ensures served { Served (command_of (words_of words.now))
         (file_in F.content F.faults F.never_fails files.old files.new)
         (sink_in K.written K.faults K.takes sink.old sink.new)
