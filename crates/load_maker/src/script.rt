@@ -71,6 +71,7 @@ fn push_moment(text: &mut String, n: u32, m: u32) -> Result<(), NoMemory>
 }
 
 /// Adds what happens at each full hundred above 0 and below n.
+#[tactic(auto, using(crate::proofs::Texts::all_left))]
 fn push_moments(text: &mut String, n: u32) -> Result<(), NoMemory>
     requires { 1 ≤ n }
     ensures { IfOk result (λ done. string_bytes text.new ≡ string_bytes text.old ++ text_of (all_moment_lines n)) }

@@ -34,6 +34,7 @@ fn push_function(text: &mut String, i: u32) -> Result<(), NoMemory>
 }
 
 /// Adds a function for each full thousand of moments.
+#[tactic(auto, using(crate::proofs::Texts::all_left))]
 fn push_functions(text: &mut String, n: u32) -> Result<(), NoMemory>
     ensures { IfOk result (λ done. string_bytes text.new ≡ string_bytes text.old ++ text_of (all_function_lines n)) }
 {

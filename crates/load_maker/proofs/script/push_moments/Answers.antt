@@ -1,10 +1,6 @@
-use Rattle.std.proofs.Common.{◌-◌, ◌/◌, string_bytes}
 use Rattle.load_maker.specs.Script.{hundred_lines}
-use Rattle.load_maker.proofs.Texts.{all_left, one_more, none_left}
+use Rattle.load_maker.proofs.Texts.{one_more, none_left}
 use Rattle.load_maker.proofs.script.push_moments.Goals as goal
-
-pub loop-k-init : goal.loop-k-init
-loop-k-init c = all_left (hundred_lines c.args.n) (string_bytes c.args.text.now) ((c.args.n - 1) / 100)
 
 pub loop-k-preserved : goal.loop-k-preserved
 loop-k-preserved c = one_more (hundred_lines c.args.n) _ _ _ _ _ c.loop-k-test.true c.in_ok-push_moment.ensures c.loop-k.invariant

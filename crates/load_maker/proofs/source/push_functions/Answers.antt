@@ -1,10 +1,6 @@
-use Rattle.std.proofs.Common.{◌/◌, string_bytes}
 use Rattle.load_maker.specs.Source.{function_lines}
-use Rattle.load_maker.proofs.Texts.{all_left, one_more, none_left}
+use Rattle.load_maker.proofs.Texts.{one_more, none_left}
 use Rattle.load_maker.proofs.source.push_functions.Goals as goal
-
-pub loop-i-init : goal.loop-i-init
-loop-i-init c = all_left function_lines (string_bytes c.args.text.now) (c.args.n / 1000)
 
 pub loop-i-preserved : goal.loop-i-preserved
 loop-i-preserved c = one_more function_lines _ _ _ _ _ c.loop-i-test.true c.in_ok-push_function.ensures c.loop-i.invariant
