@@ -189,7 +189,7 @@ fn image(alloc: Global, codes: &[CodeBlock], blocks: &[DataBlock]) -> Result<Vec
     Ok(image)
 }
 
-/// Returns the load image of the blocks. Time and memory are linear in its length.
+/// Returns the load image of the blocks (docs/image.md). Time and memory are linear in its length.
 pub fn encode(alloc: Global, blocks: &Blocks) -> Result<Vec<u8>, NoMemory>
     ensures { IfOk result (λ bytes. IsImage blocks.now bytes.items) }
 {
