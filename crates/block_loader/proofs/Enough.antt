@@ -7,13 +7,12 @@ use Rattle.stl_lex.specs.declared.fault.LoadFault.{LoadFault}
 use Rattle.stl_lex.specs.declared.token.Token.{Token}
 use Rattle.stl_decl.specs.declared.fault.Fault.{Fault}
 use Rattle.stl_decl.specs.Faults.{told, told_of}
-use Rattle.stl_decl.specs.Steps.{end_fault}
-use Rattle.stl_decl.specs.Repeat.{Turn, Ended, Goes, IsSameAbove}
+use Rattle.stl_decl.specs.Steps.{◌>>=◌, end_fault}
+use Rattle.stl_decl.specs.Repeat.{Turn, Ended, Goes, repeated, IsSameAbove}
 use Rattle.stl_decl.proofs.Fewer.{Leaves, second}
 use Rattle.stl_reader.specs.Contents.{Contents}
 use Rattle.stl_reader.specs.Reading.{body_of}
 use Rattle.stl_reader.proofs.Consumes.{ends_behind}
-use Rattle.block_loader.specs.Told.{◌>>=◌, repeated}
 use Rattle.block_loader.specs.Fronts.{front_at}
 use Rattle.block_loader.specs.Blocks.{block_by, block_from, blocks_turn, blocks_in}
 use Rattle.block_loader.specs.declared.blocks.Front.{Front}

@@ -4,11 +4,10 @@ use Rattle.std.specs.declared.alloc.Global.{Global}
 use Rattle.stl_lex.specs.declared.fault.LoadFault.{LoadFault}
 use Rattle.stl_lex.specs.declared.token.Token.{Token}
 use Rattle.stl_decl.specs.Faults.{told, told_of}
-use Rattle.stl_decl.specs.Steps.{end_fault}
-use Rattle.stl_decl.specs.Repeat.{Turn, Ended, Goes}
+use Rattle.stl_decl.specs.Steps.{◌>>=◌, end_fault}
+use Rattle.stl_decl.specs.Repeat.{Turn, Ended, Goes, repeated}
 use Rattle.stl_decl.specs.Layout.{size_of}
 use Rattle.stl_reader.specs.Reading.{body_of}
-use Rattle.block_loader.specs.Told.{◌>>=◌, repeated}
 use Rattle.block_loader.specs.Fronts.{front_at}
 use Rattle.block_loader.specs.declared.blocks.Front.{Front}
 use Rattle.block_loader.specs.declared.blocks.Front.TheVariants as fronted

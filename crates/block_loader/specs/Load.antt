@@ -9,7 +9,7 @@ use Rattle.stl_decl.specs.Layout.{Section, size_of}
 use Rattle.stl_decl.specs.Bytes.{first_bytes}
 use Rattle.stl_reader.specs.Contents.{Contents}
 use Rattle.stl_reader.specs.declared.contents.Jump.{Jump}
-use Rattle.block_loader.specs.Told.{◌>>=◌}
+use Rattle.stl_decl.specs.Steps.{◌>>=◌}
 use Rattle.block_loader.specs.Faults.{target, kind_byte, judged}
 use Rattle.block_loader.specs.Blocks.{blocks_of}
 use Rattle.block_loader.specs.declared.error.LoadError.{LoadError}

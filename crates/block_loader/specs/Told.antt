@@ -1,21 +1,15 @@
 -- Reading as it is told: a fault is its kind and its line.
-use Rattle.std.specs.Prelude.{◌≡◌, ℕ, zero, suc, Result, Ok, Err}
+use Rattle.std.specs.Prelude.{◌≡◌, Result, Ok, Err}
 use Rattle.stl_lex.specs.declared.fault.LoadFault.{LoadFault}
 use Rattle.stl_lex.specs.declared.lexer.LexError.{LexError}
 use Rattle.stl_lex.specs.declared.lexer.LexError.TheVariants as lexical
 use Rattle.stl_decl.specs.declared.fault.StepError.{StepError}
 use Rattle.stl_decl.specs.declared.fault.StepError.TheVariants as steps
 use Rattle.stl_decl.specs.Faults.{told}
-use Rattle.stl_decl.specs.Repeat.{Turn, Ended, Goes}
 use Rattle.stl_reader.specs.declared.reading.ReadError.{ReadError}
 use Rattle.stl_reader.specs.declared.reading.ReadError.TheVariants as denials
 use Rattle.block_loader.specs.declared.error.LoadError.{LoadError}
 use Rattle.block_loader.specs.declared.error.LoadError.TheVariants as errors
-
-infixl 10 ◌>>=◌
-abbrev pub ◌>>=◌ : {A B : Type 0} → Result A LoadFault → (A → Result B LoadFault) → Result B LoadFault
-(Ok x) >>= f = f x
-(Err e) >>= f = Err e
 
 -- loading fails so, unless memory ran out
 abbrev pub Fails : {A : Type 0} → LoadError → Result A LoadFault → Type 0
@@ -26,11 +20,6 @@ Fails errors.NoMemory read = Unit {0}
 abbrev pub Gives : {A B : Type 0} → (A → B) → Result A LoadError → Result B LoadFault → Type 0
 Gives view (Ok x) read = read ≡ Ok (view x)
 Gives view (Err e) read = Fails e read
-
--- at most n turns, and this fault where none of them ends
-unfoldable pub repeated : {S A : Type 0} → LoadFault → (S → Result (Turn S A) LoadFault) → ℕ → S → Result A LoadFault
-repeated late turn zero s = Err late
-repeated late turn (suc n) s = turn s >>= λ t. elim t [ Ended a ↦ Ok a | Goes next ↦ repeated late turn n next ]
 
 abbrev pub of_step : StepError → LoadError
 of_step (steps.Fault f) = errors.Fault (told f)

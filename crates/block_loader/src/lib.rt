@@ -13,6 +13,3 @@ pub use faults::{SourceFault, least_fault_law};
 pub use laws::more_turns_read_the_same;
 pub use loading::load;
 pub use stl_lex::LoadFault;
-
-#[cfg(test)]
-mod tests;

@@ -18,7 +18,7 @@ pub const LOCAL_BYTES: usize = 256;
 /// What the local bytes of a block begin with.
 static ZEROS: [u8; LOCAL_BYTES] = [0; LOCAL_BYTES];
 
-/// So many bytes of 0.
+/// Returns `count` bytes of 0.
 fn zeros(count: u16) -> &'static [u8]
     requires { count ≤ 256 }
     ensures { result.now ≡ replicate count 0 }

@@ -16,7 +16,7 @@ use Rattle.mc_machine.specs.declared.instruction.Flow.{Flow}
 use Rattle.mc_machine.specs.declared.instruction.Flow.TheVariants as flow
 use Rattle.mc_machine.specs.Areas.{with_registers}
 use Rattle.mc_machine.specs.Effect.{effect_of}
-use Rattle.mc_machine.specs.Meaning.{State, Undefined, Rest, Meaning, Move, Goes, Calls, Reaction, Again, Completes, Turn, Asks, Moves, Halts, Leaves, Ends, statements_of, flows, stop_request, takes, answered, resume, noting, moves, reacts, completed, took, asking, does, runs, turn_of, turn, body_within, left, body}
+use Rattle.mc_machine.specs.Meaning.{State, Undefined, Rest, Meaning, Move, Goes, Calls, Reaction, Again, Completes, Turn, Asks, Moves, Halts, Leaves, Ends, statements_of, flows, stop_request, takes_at, answered, resume, noting, moves, reacts, completed, took, asking, does, runs, turn_of, turn, body_within, left, body}
 
 -- two continuations agree wherever no more is left than this
 pub record Agree (rest rest' : Rest) (bound : ℕ) : Type 0 where
@@ -43,7 +43,7 @@ reacts_same m m' rest rest' b s a lt same agree (Completes n v) = moves_same m m
 asking_same : (m m' : Meaning) (here : Place) (r : Request) (rest rest' : Rest) (s : State) (a : List Answer) (b : ℕ) → left s a ≡ b → Same m m' b → Agree rest rest' b → asking m here r rest s a ≡ asking m' here r rest' s a
 asking_same m m' here r rest rest' s [] b e same agree = refl
 asking_same m m' here r rest rest' s (x ∷ a) b e same agree =
-    ap (λ v. if takes r x then v else Undefined) (reacts_same m m' rest rest' b (took s) a (omega arith) same agree (answered s.program s.memory here r.ask x))
+    ap (λ v. if takes_at s.taken r x then v else Undefined) (reacts_same m m' rest rest' b (took s) a (omega arith) same agree (answered s.program s.memory here r.ask x))
 
 -- a turn that completes a statement comes before the 256th
 abbrev pub Counts : Turn → ℕ → Type 0

@@ -10,7 +10,7 @@ use Rattle.mc_machine.specs.declared.areas.Memory.{Memory}
 use Rattle.mc_machine.specs.declared.places.Note.{Note}
 use Rattle.mc_machine.specs.declared.places.Place.TheVariants.{AtOutputs, AtStop, Over}
 use Rattle.mc_machine.specs.declared.places.Frame.{Frame}
-use Rattle.mc_machine.specs.Meaning.{Waits, Stopped, Undefined, Rest, Move, Goes, Calls, Reaction, Again, Completes, Turn, Asks, Moves, Halts, Leaves, Ends, with_note, stop_request, resume, moves, reacts, took, does, body, turn_of, takes, answered, never, start, start_notes, std}
+use Rattle.mc_machine.specs.Meaning.{Waits, Stopped, Undefined, Rest, Move, Goes, Calls, Reaction, Again, Completes, Turn, Asks, Moves, Halts, Leaves, Ends, with_note, stop_request, resume, moves, reacts, took, does, body, turn_of, takes, is_dated, takes_at, answered, never, start, start_notes, std}
 use Rattle.mc_machine.specs.Areas.{start_memory}
 use Rattle.mc_machine.specs.Stands.{Config, newest, with_newest, state_of, rest_of, todo, StandsFor, IsMoved, Reacts, Follows, AsksAt, Keeps, turns_left}
 use Rattle.mc_machine.proofs.Enough.{Counts, body_turn}
@@ -152,14 +152,15 @@ reacted_at c c' moment (Again note v) e = moved_at c c' 0 moment note v e
 reacted_at c c' moment (Completes note v) e = moved_at c c' 1 moment note v e
 
 -- an answer leads on
-takes_on : (c c' : Config) (r : Request) (x : Answer) (notes : List Note) (n moment : ℕ) (a : List Answer) → moment ≡ n → AsksAt c r → takes r x ≡ true → Reacts (answered c.program c.memory c.place r.ask x) c moment c' → todo c notes n (x ∷ a) ≡ todo c' (notes_reacted (answered c.program c.memory c.place r.ask x) notes moment) (n + 1) a
+takes_on : (c c' : Config) (r : Request) (x : Answer) (notes : List Note) (n moment : ℕ) (a : List Answer) → moment ≡ n → AsksAt c r → takes_at n r x ≡ true → Reacts (answered c.program c.memory c.place r.ask x) c moment c' → todo c notes n (x ∷ a) ≡ todo c' (notes_reacted (answered c.program c.memory c.place r.ask x) notes moment) (n + 1) a
 takes_on c c' r x notes n moment a at e fit m =
     turns c notes n (x ∷ a) (Asks r) e
     ∙ ap (λ b. if b then reacts body (rest_of never c.frames) (took (state_of c notes n)) a (answered c.program c.memory c.place r.ask x) else Undefined) fit
     ∙ reacted c c' notes (n + 1) moment moment a (answered c.program c.memory c.place r.ask x) (omega arith) m
 
-pub stands_take : (program : Program) (c c' : Config) (r : Request) (x : Answer) (given : List Answer) (moment : ℕ) → moment ≡ length given → AsksAt c r → takes r x ≡ true → Reacts (answered c.program c.memory c.place r.ask x) c moment c' → StandsFor program given c → StandsFor program (given ++ x ∷ []) c'
-stands_take program c c' r x given moment at e fit m stands =
+pub stands_take : (program : Program) (c c' : Config) (r : Request) (x : Answer) (given : List Answer) (moment : ℕ) → moment ≡ length given → is_dated moment x ≡ true → AsksAt c r → takes r x ≡ true → Reacts (answered c.program c.memory c.place r.ask x) c moment c' → StandsFor program given c → StandsFor program (given ++ x ∷ []) c'
+stands_take program c c' r x given moment at dated e fit m stands =
+    let fits_here : takes_at (length given) r x ≡ true = rw fit (rw (sym at) dated) in
     let reaction = answered c.program c.memory c.place r.ask x in
     let notes = notes_reacted reaction stands.notes moment in
     let longer = length-append given (x ∷ []) in
@@ -169,7 +170,7 @@ stands_take program c c' r x given moment at e fit m stands =
       moment = (let here = reacted_at c c' moment reaction m in omega arith);
       goes_on = λ more.
           ap (std program) (append_assoc given (x ∷ []) more) ∙ stands.goes_on (x ∷ more)
-          ∙ takes_on c c' r x stands.notes (length given) moment more at e fit m
+          ∙ takes_on c c' r x stands.notes (length given) moment more at e fits_here m
           ∙ ap (λ n. todo c' notes n more) (sym longer);
     }
 

@@ -1,3 +1,4 @@
+pub mod AreaBytes
 pub mod Asked
 pub mod Enough
 pub mod Keeps
@@ -5,3 +6,4 @@ pub mod Operands
 pub mod PlayedMeans
 pub mod Row
 pub mod Sound
+pub mod Then

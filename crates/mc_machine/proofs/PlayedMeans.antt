@@ -4,7 +4,7 @@ use Rattle.std.specs.Prelude.{slice_get, is_some}
 use Rattle.std.proofs.lemmas.Bool.{and_parts, not-true}
 use Rattle.s7_base.specs.declared.statement.Statement.{Statement}
 use Rattle.s7_base.specs.declared.table.InstructionRow.{InstructionRow}
-use Rattle.s7_base.specs.declared.table.TheConstants.{INSTRUCTIONS}
+use Rattle.s7_base.specs.InstructionSet.{instruction_set}
 use Rattle.s7_base.specs.declared.operands.OperandArea.TheVariants as areas
 use Rattle.s7_base.specs.Operands.{allows}
 use Rattle.s7_base.specs.Rows.{row_of}
@@ -34,7 +34,7 @@ found [] each n locals s out allowed plain = absurd cc
 found (row ∷ rows) each zero locals s out allowed plain = each.0 locals s out allowed plain
 found (row ∷ rows) each (suc n) locals s out allowed plain = found rows each.1 n locals s out allowed plain
 
-each_reads : EachReads INSTRUCTIONS
+each_reads : EachReads instruction_set
 each_reads = (
   λ locals s out h plain. checked checks.And locals s out h,
   (
@@ -426,4 +426,4 @@ pub played_means : (locals : ℕ) (s : Statement) → is_statement locals s ≡ 
 unfolding row_of
 played_means locals s language played =
     let parts = and_parts (not (is_elsewhere s)) (not (is_call_row (row_of s.op))) played in
-    found INSTRUCTIONS each_reads s.op locals s (is_here s (not-true (is_elsewhere s) parts.0)) language (not-true (is_call_row (row_of s.op)) parts.1)
+    found instruction_set each_reads s.op locals s (is_here s (not-true (is_elsewhere s) parts.0)) language (not-true (is_call_row (row_of s.op)) parts.1)

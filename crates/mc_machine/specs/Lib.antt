@@ -1,5 +1,6 @@
 pub mod Areas
 pub mod BitEffect
+pub mod BlockRuns
 pub mod CounterEffect
 pub mod Effect
 pub mod EngineView

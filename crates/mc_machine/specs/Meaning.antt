@@ -1,5 +1,5 @@
 -- The standard CPU: what a program means, by one recursion over places and answers.
-use Rattle.std.specs.Prelude.{ℕ, zero, suc, ◌+◌, ◌-◌, ◌*◌, Bool, true, false, nat_lt, if◌then◌else◌, ◌&&◌, List, [], ◌∷◌, ◌++◌, length, Option, Some, None, Result, Ok, Err, slice_get}
+use Rattle.std.specs.Prelude.{ℕ, zero, suc, ◌+◌, ◌-◌, ◌*◌, ◌==◌, Bool, true, false, nat_lt, if◌then◌else◌, ◌&&◌, List, [], ◌∷◌, ◌++◌, length, Option, Some, None, Result, Ok, Err, slice_get}
 use Rattle.s7_base.specs.declared.statement.Statement.{Statement}
 use Rattle.s7_base.specs.declared.blocks.BlockRef.{BlockRef}
 use Rattle.s7_base.specs.declared.blocks.CodeKind.TheVariants.{Ob}
@@ -209,6 +209,15 @@ is_built _ = true
 abbrev pub takes : Request → Answer → Bool
 takes request answer = fits request answer && is_built answer
 
+-- an answer Now is that of its own moment
+abbrev pub is_dated : ℕ → Answer → Bool
+is_dated moment (answers.Now k) = k == moment
+is_dated moment _ = true
+
+-- the CPU takes this answer to this request at this moment
+abbrev pub takes_at : ℕ → Request → Answer → Bool
+takes_at moment request answer = takes request answer && is_dated moment answer
+
 -- the answer stops the CPU: it is stopped from outside, or its own request to stop is done
 abbrev pub stops_cpu : Ask → Answer → Bool
 stops_cpu ask (answers.CpuStop code) = true
@@ -262,11 +271,11 @@ abbrev pub reacts : Meaning → Rest → State → List Answer → Reaction → 
 reacts meaning rest state given (Again note move) = moves meaning rest (noting state note) given move
 reacts meaning rest state given (Completes note move) = moves meaning rest (completed (noting state note)) given move
 
--- a place asks
+-- a place asks; answer k is taken at moment k, and one that does not fit there ends the evaluation
 abbrev pub asking : Meaning → Place → Request → Rest → State → List Answer → End
 asking meaning place request rest state [] = Waits request state
 asking meaning place request rest state (answer ∷ given) =
-    if takes request answer then reacts meaning rest (took state) given (answered state.program state.memory place request.ask answer)
+    if takes_at state.taken request answer then reacts meaning rest (took state) given (answered state.program state.memory place request.ask answer)
     else Undefined
 
 abbrev pub does : Meaning → Place → Rest → State → List Answer → Turn → End

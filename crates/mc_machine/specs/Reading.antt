@@ -30,7 +30,7 @@ use Rattle.s7_base.specs.declared.operation.BlockControl.TheVariants as block_co
 use Rattle.s7_base.specs.declared.operands.OperandArea.TheVariants as areas
 use Rattle.s7_base.specs.Operands.{is_in, is_up_to}
 use Rattle.s7_base.specs.Rows.{row_of}
-use Rattle.s7_base.specs.Instruction.{◌>>=◌}
+use Rattle.s7_base.specs.Optional.{◌>>=◌}
 use Rattle.status_word.specs.declared.status.Check.{Check}
 use Rattle.status_word.specs.declared.status.Check.TheVariants as checks
 use Rattle.status_word.specs.declared.jumps.Jump.TheVariants as jump_kinds

@@ -6,16 +6,14 @@ use Rattle.s7_base.specs.declared.entry.Ask.TheVariants as asks
 use Rattle.s7_base.specs.declared.entry.Request.{Request}
 use Rattle.s7_base.specs.declared.entry.Answer.{Answer}
 use Rattle.s7_base.specs.declared.entry.Answer.TheVariants as answers
-use Rattle.s7_base.specs.declared.instruction.BitOperation.TheVariants.{And, Assign}
-use Rattle.s7_base.specs.declared.instruction.BitArea.TheVariants.{I, Q}
-use Rattle.s7_base.specs.Instruction.{bit_statement}
 use Rattle.s7_base.specs.Blocks.{Program}
 use Rattle.mc_machine.specs.Meaning.{request_of}
 
+-- operation 0 is A and 14 is =, area 1 is I and 2 is Q
 abbrev pub rung_statements : List Statement
 rung_statements =
-    bit_statement (record { operation = And; area = I; at_byte = 0; bit = 0 })
-    ∷ bit_statement (record { operation = Assign; area = Q; at_byte = 0; bit = 0 })
+    record { op = 0; area = 1; bit = 0; db = 0; value = 0 }
+    ∷ record { op = 14; area = 2; bit = 0; db = 0; value = 0 }
     ∷ []
 
 abbrev pub rung : Program

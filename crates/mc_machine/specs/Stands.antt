@@ -1,5 +1,5 @@
 -- What it means that a machine stands for a program and the answers that it has taken.
-use Rattle.std.specs.Prelude.{◌≡◌, ◌≢◌, ℕ, suc, ◌+◌, ◌-◌, ◌*◌, false, List, [], ◌∷◌, ◌++◌, length, drop, Option, Some, None, IfSome, IsTrue, is_some, slice_get}
+use Rattle.std.specs.Prelude.{◌≡◌, ◌≢◌, ℕ, suc, ◌+◌, ◌-◌, ◌*◌, false, List, [], ◌∷◌, ◌++◌, length, drop, Option, Some, None, IfSome, IsTrue, is_some, slice_get, flat_map}
 use Rattle.s7_base.specs.declared.entry.Ask.{Ask}
 use Rattle.s7_base.specs.declared.entry.Ask.TheVariants as asks
 use Rattle.s7_base.specs.declared.entry.Request.{Request}
@@ -16,9 +16,11 @@ use Rattle.mc_machine.specs.declared.places.Place.{Place}
 use Rattle.mc_machine.specs.declared.places.Place.TheVariants.{AtOutputs, AtInputs, AtCycle, AtStop, Over, At}
 use Rattle.mc_machine.specs.declared.places.Frame.{Frame}
 use Rattle.mc_machine.specs.declared.places.Note.{Note}
+use Rattle.timers.specs.Bytes as timer_form
+use Rattle.counters.specs.Bytes as counter_form
 use Rattle.mc_machine.specs.Areas.{with_registers}
 use Rattle.mc_machine.specs.CounterEffect.{counter_at}
-use Rattle.mc_machine.specs.Meaning.{State, End, Waits, Stopped, Rest, Move, Goes, Calls, Reaction, Again, Completes, Turn, Asks, Moves, Halts, Leaves, Ends, stop_request, resume, body, takes, stops_cpu, turn_of, never, std}
+use Rattle.mc_machine.specs.Meaning.{State, End, Waits, Stopped, Rest, Move, Goes, Calls, Reaction, Again, Completes, Turn, Asks, Moves, Halts, Leaves, Ends, stop_request, resume, body, takes, is_dated, stops_cpu, turn_of, never, std}
 
 -- where a machine is: its program, its place, the frames under it, what the statements see, the statements completed
 -- since the last answer, the moment of that answer, and the diagnostic entries that it keeps
@@ -180,6 +182,10 @@ GoesOn (Some request) answer = stops_cpu request.ask answer ≡ false
 abbrev pub CanGoOn : Option Running → Answer → Type 0
 CanGoOn machine answer = OfRunning machine (λ running. GoesOn running.waits answer)
 
+-- the answer, if it is Now, is that of this moment
+abbrev pub IsDated : ℕ → Answer → Type 0
+IsDated moment answer = IsTrue (is_dated moment answer)
+
 abbrev pub CanTake : Option Running → Answer → Type 0
 CanTake machine answer = OfRunning machine (λ running. IsTaken running.waits answer)
 
@@ -202,14 +208,14 @@ abbrev pub CpuStopped : Program → List Answer → Option Running → Type 0
 CpuStopped program given machine =
     OfRunning machine (λ running. (state : State) × (std program given ≡ Stopped state) × Shows running state)
 
--- the bytes of an area; no other area is there yet
+-- the bytes of an area; no data block is loaded yet
 abbrev pub area_bytes : Memory → Area → List ℕ
 area_bytes memory I = memory.inputs
 area_bytes memory Q = memory.outputs
 area_bytes memory M = memory.flags
 area_bytes memory (Db number) = []
-area_bytes memory Timers = []
-area_bytes memory Counters = []
+area_bytes memory Timers = flat_map timer_form.bytes_of memory.timers
+area_bytes memory Counters = flat_map counter_form.bytes_of memory.counters
 area_bytes memory Registers = []
 
 -- the byte of an area at an address, if there is one
@@ -227,6 +233,8 @@ pub record HasSizes (memory : Memory) : Type 0 where
   pub inputs : length memory.inputs ≡ 64
   pub outputs : length memory.outputs ≡ 64
   pub flags : length memory.flags ≡ 1024
+  pub timers : length memory.timers ≡ 256
+  pub counters : length memory.counters ≡ 256
 
 -- the diagnostic entries that are kept, the oldest first
 abbrev pub notes_of : Option Running → List Note

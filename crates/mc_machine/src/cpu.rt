@@ -1,14 +1,18 @@
 //! The machine, whose inside its users do not see.
-ghost use Rattle.std.specs.Prelude.{◌≡◌, ◌≤◌, ℕ, ◌++◌, ◌∷◌, [], List, length, Option, Some, None, slice_get, false, IsTrue, OnOk, OnErr, ◌↔◌};
+ghost use Rattle.std.specs.Prelude.{◌≡◌, ◌≤◌, ℕ, ◌++◌, ◌∷◌, [], List, length, Option, Some, None, slice_get, false, IsTrue, OnOk, OnErr, ◌↔◌, flat_map};
+ghost use Rattle.timers.specs.Bytes as timer_form;
+ghost use Rattle.counters.specs.Bytes as counter_form;
 ghost use Rattle.std.specs.Option.{option_map};
 ghost use Rattle.s7_base.specs.Blocks.{Program, IsPlayable};
-ghost use Rattle.mc_machine.specs.Stands.{IsIdle, IsRunning, CanAsk, CanTake, CanGoOn, IsAsked, HasStopped, WaitsAt, Stands, CpuWaits, CpuStopped, area_bytes, OfRunning, HasSizes, byte_of, counter_of, notes_of};
+ghost use Rattle.mc_machine.specs.Stands.{IsIdle, IsRunning, CanAsk, CanTake, IsDated, CanGoOn, IsAsked, HasStopped, WaitsAt, Stands, CpuWaits, CpuStopped, area_bytes, OfRunning, HasSizes, byte_of, counter_of, notes_of};
 
 use crate::engine::Engine;
 use crate::{Memory, Place};
+use counters::Counter;
 use s7_base::{Answer, Area, Blocks, DiagCode, NoMemory, Request};
 use std::alloc::Global;
 use std::marker::Model;
+use timers::Timer;
 
 /// A CPU: idle, or running a program from request to request. Only `load` takes memory.
 #[derive(Debug, Drop)]
@@ -88,8 +92,8 @@ impl Machine {
         requires { CanTake self.old answer.now }
         ensures running { IsRunning self.new }
         ensures going { CanGoOn self.old answer.now → CanAsk self.new }
-        // it stands for the CPU after this answer too
-        ensures stands { (program : Program) (given : List Answer) → moment ≡ length given → Stands program given self.old
+        // it stands for the CPU after this answer too; an answer Now is to be that of this moment
+        ensures stands { (program : Program) (given : List Answer) → moment ≡ length given → IsDated moment answer.now → Stands program given self.old
             → Stands program (given ++ answer.now ∷ []) self.new }
     {
         if let Some(engine) = &mut self.engine {
@@ -157,19 +161,69 @@ impl Machine {
     }
 }
 
+/// The byte of a list at a place, if there is one.
+fn byte_at(bytes: &[u8], at: usize) -> Option<u8>
+    ensures { result ≡ slice_get bytes.now at }
+{
+    bytes.get(at).copied()
+}
+
+/// The byte of the area of the timers, 24 bytes each.
+#[tactic(auto, using(crate::proofs::AreaBytes::no_timer_byte, crate::proofs::AreaBytes::timer_byte))]
+fn timer_byte(timers: &[Timer], at: usize) -> Option<u8>
+    ensures { result ≡ slice_get (flat_map timer_form.bytes_of timers.now) at }
+{
+    let timer = timer_in(timers, at / 24)?;
+    byte_at(&timer.to_bytes(), at % 24)
+}
+
+/// The timer of a number, if there is one.
+fn timer_in(timers: &[Timer], n: usize) -> Option<Timer>
+    ensures { result ≡ slice_get timers.now n }
+{
+    timers.get(n).copied()
+}
+
+/// The byte of the area of the counters, four bytes each.
+#[tactic(auto, using(crate::proofs::AreaBytes::no_counter_byte, crate::proofs::AreaBytes::counter_byte))]
+fn counter_byte(counters: &[Counter], at: usize) -> Option<u8>
+    ensures { result ≡ slice_get (flat_map counter_form.bytes_of counters.now) at }
+{
+    let counter = counter_in(counters, at / 4)?;
+    byte_at(&counter.to_bytes(), at % 4)
+}
+
+/// The counter of a number, if there is one.
+fn counter_in(counters: &[Counter], n: usize) -> Option<Counter>
+    ensures { result ≡ slice_get counters.now n }
+{
+    counters.get(n).copied()
+}
+
+/// Shows how many bytes, timers and counters there are.
+fn show_sizes(memory: &Memory)
+    ensures { HasSizes memory.now }
+{
+    let _inputs: &[u8] = &memory.inputs;
+    let _outputs: &[u8] = &memory.outputs;
+    let _flags: &[u8] = &memory.flags;
+    let _timers: &[Timer] = &memory.timers;
+    let _counters: &[Counter] = &memory.counters;
+}
+
 /// The byte of an area.
 fn area_byte(memory: &Memory, area: Area, at_byte: u16) -> Option<u8>
     ensures byte { result ≡ slice_get (area_bytes memory.now area) at_byte }
     ensures sizes { HasSizes memory.now }
 {
-    let inputs: &[u8] = &memory.inputs;
-    let outputs: &[u8] = &memory.outputs;
-    let flags: &[u8] = &memory.flags;
+    show_sizes(memory);
     let at = at_byte as usize;
     match area {
-        Area::I => inputs.get(at).copied(),
-        Area::Q => outputs.get(at).copied(),
-        Area::M => flags.get(at).copied(),
-        Area::Db(_) | Area::Timers | Area::Counters | Area::Registers => None,
+        Area::I => byte_at(&memory.inputs, at),
+        Area::Q => byte_at(&memory.outputs, at),
+        Area::M => byte_at(&memory.flags, at),
+        Area::Timers => timer_byte(&memory.timers, at),
+        Area::Counters => counter_byte(&memory.counters, at),
+        Area::Db(_) | Area::Registers => None,
     }
 }

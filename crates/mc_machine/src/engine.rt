@@ -4,7 +4,7 @@ ghost use Rattle.s7_base.specs.Blocks.{Program};
 ghost use Rattle.s7_base.specs.declared.entry.Answer.{Answer};
 ghost use Rattle.s7_base.specs.declared.blocks.BlockRef.{BlockRef};
 ghost use Rattle.mc_machine.specs.Meaning.{statements_of, turn_of, runs, flows, jump_among, answered, takes, stops_cpu, begins_main, main_block, level_of, cycle_frame, lost_note, again_mode, again, resumed, timed_at, instruction_at, Leaves, Waits, Stopped, std, request_of, stop_request};
-ghost use Rattle.mc_machine.specs.Stands.{Running, state_of, newest, with_newest, StandsFor, IsMoved, Reacts, Follows, IsHigh, IsSound, IsValid, IsAskedAt, AsksAt, Keeps, IsTaken, IsAsked, GoesOn};
+ghost use Rattle.mc_machine.specs.Stands.{Running, state_of, newest, with_newest, StandsFor, IsMoved, Reacts, Follows, IsHigh, IsSound, IsValid, IsAskedAt, AsksAt, Keeps, IsTaken, IsDated, IsAsked, GoesOn};
 ghost use Rattle.s7_base.specs.declared.entry.Ask.{Ask};
 ghost use Rattle.mc_machine.specs.EngineView.{config_of, running_of};
 
@@ -200,7 +200,7 @@ impl Engine {
         ensures valid { IsValid (running_of self.new) }
         ensures going { GoesOn (running_of self.old).waits answer.now → (config_of self.new).place ≢ Place.Over }
         // it stands for the CPU after this answer too
-        ensures stands { (program : Program) (given : List Answer) → moment ≡ length given
+        ensures stands { (program : Program) (given : List Answer) → moment ≡ length given → IsDated moment answer.now
             → StandsFor program given (config_of self.old) → StandsFor program (given ++ answer.now ∷ []) (config_of self.new) }
     {
         let Some(request) = self.waits.take() else {

@@ -1,4 +1,5 @@
-//! A law of the definitions.
+//! Laws of the definitions.
+ghost use Rattle.mc_machine.specs.BlockRuns.{BodyThen, BodyTurn};
 ghost use Rattle.mc_machine.specs.Played.{PlayedMeans};
 
 /// Each statement of the language that is played means an instruction, so that in a program that is played no statement
@@ -6,4 +7,19 @@ ghost use Rattle.mc_machine.specs.Played.{PlayedMeans};
 #[tactic(auto, using(crate::proofs::PlayedMeans::played_means))]
 pub fn played_statements_mean_instructions()
     ensures { PlayedMeans }
+{}
+
+/// What a place of a program means, given what follows its block, is the run of the block by itself, and then what follows
+/// from where the block ended, over the answers that were left there. Where the CPU stopped in the block, or no answer
+/// was left in it, nothing follows.
+#[tactic(auto, using(crate::proofs::Then::body_then))]
+pub fn a_block_runs_by_itself()
+    ensures { BodyThen }
+{}
+
+/// What a place means is what it does, and then what the places mean that it leads to: the recursion of the standard CPU
+/// has no bound that decides anything.
+#[tactic(auto, using(crate::proofs::Then::body_turns))]
+pub fn a_place_means_its_turn()
+    ensures { BodyTurn }
 {}

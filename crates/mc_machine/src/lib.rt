@@ -23,8 +23,7 @@ pub use instruction::{
     Instruction, JumpInstruction, MoveInstruction, NumberInstruction, StatusInstruction,
     TimedOperation, TimerOperation, ValuePlace, Width, WordInstruction,
 };
-pub use laws::played_statements_mean_instructions;
+pub use laws::{
+    a_block_runs_by_itself, a_place_means_its_turn, played_statements_mean_instructions,
+};
 pub use places::{Frame, Level, Mode, Note, Place};
-
-#[cfg(test)]
-mod tests;

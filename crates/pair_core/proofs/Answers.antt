@@ -1,6 +1,7 @@
 -- The lawful answer: which it is, that it fits, and when it stops the CPU.
-use Rattle.std.proofs.Common.{◌≡◌, ℕ, Bool, true, false, ◌&&◌, Option, Some, None, refl, ap, MatchBool}
+use Rattle.std.proofs.Common.{◌≡◌, ◌∙◌, ℕ, Bool, true, false, ◌&&◌, Option, Some, None, refl, ap, MatchBool}
 use Rattle.std.specs.Prelude.{if◌then◌else◌}
+use Rattle.std.proofs.lemmas.Bool.{eq-eqb}
 use Rattle.s7_base.specs.declared.entry.Side.TheVariants.{A, B}
 use Rattle.s7_base.specs.declared.entry.Loss.TheVariants.{Failed}
 use Rattle.s7_base.specs.declared.entry.Ask.{Ask}
@@ -8,7 +9,7 @@ use Rattle.s7_base.specs.declared.entry.Ask.TheVariants as asks
 use Rattle.s7_base.specs.declared.entry.Request.{Request}
 use Rattle.s7_base.specs.declared.entry.Answer.{Answer}
 use Rattle.s7_base.specs.declared.entry.Answer.TheVariants as answers
-use Rattle.mc_machine.specs.Meaning.{takes, stops_cpu, request_of}
+use Rattle.mc_machine.specs.Meaning.{takes, is_dated, stops_cpu, request_of}
 use Rattle.plant_script.specs.Plan.{Plan}
 use Rattle.pair_core.specs.declared.standing.Standing.{Standing}
 use Rattle.pair_core.specs.Cuts.{is_cut}
@@ -74,6 +75,34 @@ takes_by plan watch k request answer false false h = monitored_takes plan k requ
 -- the lawful answer is one that the CPU takes
 pub lawful_takes : (plan : Plan) (st : Standing) (watch : Option ℕ) (k : ℕ) (request : Request) (answer : Answer) → IsLawfulAnswer plan st watch k request.ask answer → takes request answer ≡ true
 lawful_takes plan st watch k request answer h = takes_by plan watch k request answer (st.a && st.b && is_cut plan A k) (st.a && st.b && is_cut plan B k) h
+
+plain_dated : (plan : Plan) (k : ℕ) (ask : Ask) (answer : Answer) → IsPlainAnswer plan k ask answer → is_dated k answer ≡ true
+plain_dated plan k (asks.Outputs image) answer e = ap (is_dated k) e
+plain_dated plan k asks.Inputs answer e = ap (is_dated k) e
+plain_dated plan k asks.Cycle answer e = ap (is_dated k) e
+plain_dated plan k asks.Now answer e = ap (is_dated k) e ∙ eq-eqb k k refl
+plain_dated plan k asks.Tick answer e = ap (is_dated k) e
+plain_dated plan k asks.Retrigger answer e = ap (is_dated k) e
+plain_dated plan k (asks.Reply value) answer e = ap (is_dated k) e
+plain_dated plan k (asks.Stop code) answer e = ap (is_dated k) e
+plain_dated plan k (asks.ReadP addr width) answer e = absurd e
+plain_dated plan k (asks.WriteP addr width value) answer e = absurd e
+
+monitored_dated : (plan : Plan) (k : ℕ) (ask : Ask) (answer : Answer) (overdue : Bool)
+    → MatchBool overdue (answer ≡ answers.CpuStop codes.Cycle) (IsPlainAnswer plan k ask answer) → is_dated k answer ≡ true
+monitored_dated plan k ask answer true h = ap (is_dated k) h
+monitored_dated plan k ask answer false h = plain_dated plan k ask answer h
+
+dated_by : (plan : Plan) (watch : Option ℕ) (k : ℕ) (ask : Ask) (answer : Answer) (a b : Bool)
+    → MatchBool a (answer ≡ answers.Lost A Failed) (MatchBool b (answer ≡ answers.Lost B Failed) (IsMonitoredAnswer plan watch k ask answer))
+    → is_dated k answer ≡ true
+dated_by plan watch k ask answer true b h = ap (is_dated k) h
+dated_by plan watch k ask answer false true h = ap (is_dated k) h
+dated_by plan watch k ask answer false false h = monitored_dated plan k ask answer (is_overdue watch k) h
+
+-- the lawful answer, if it is Now, is that of its own moment
+pub lawful_dated : (plan : Plan) (st : Standing) (watch : Option ℕ) (k : ℕ) (ask : Ask) (answer : Answer) → IsLawfulAnswer plan st watch k ask answer → is_dated k answer ≡ true
+lawful_dated plan st watch k ask answer h = dated_by plan watch k ask answer (st.a && st.b && is_cut plan A k) (st.a && st.b && is_cut plan B k) h
 
 -- the record and the CPU agree on what stops it
 pub not_stopping : (ask : Ask) (answer : Answer) → stop_by ask answer ≡ None → stops_cpu ask answer ≡ false

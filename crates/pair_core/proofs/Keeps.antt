@@ -14,17 +14,17 @@ use Rattle.pair_core.specs.declared.turns.Act.{Act}
 use Rattle.pair_core.specs.declared.turns.Act.TheVariants.{Over, Dead, Take, Show, Mark, Unmarked, Behind, Append}
 use Rattle.pair_core.specs.declared.own.Own.{Own}
 use Rattle.pair_core.specs.declared.own.Parts.{Parts}
-use Rattle.pair_core.specs.Sides.{same_side, runs, first_standing}
+use Rattle.pair_core.specs.Sides.{same_side, runs, first_standing, after}
 use Rattle.pair_core.specs.Cuts.{is_cut, is_late}
 use Rattle.pair_core.specs.Stops.{stop_of}
 use Rattle.pair_core.specs.Showings.{tagged, shown_of}
 use Rattle.pair_core.specs.Losses.{lost_at, loses_by}
 use Rattle.pair_core.specs.World.{Setup, Log, World, part, part_in, with_part, taken_one, standing_in, is_open, is_pending, has_shown, is_down, end_by, ended, is_behind, unless_over, must_wait, waits_for_other, when_taken, choose, next_entry, with_entry, with_shown, with_marked, appended, acted}
 use Rattle.pair_core.specs.Kept.{CanAct}
-use Rattle.pair_core.specs.Good.{Pending, GoodLog, IsRunningSide, IsSameSide, Good, shown_by}
+use Rattle.pair_core.specs.Good.{Pending, GoodLog, IsRunningSide, IsSameSide, LastIsTaken, Good, shown_by}
 use Rattle.pair_core.proofs.Snoc.{standing_snoc}
 use Rattle.pair_core.proofs.Bounds.{shown_few}
-use Rattle.pair_core.proofs.Losses.{pick, lost_snoc, lost_out, lost_was_cut, ran_first}
+use Rattle.pair_core.proofs.Losses.{pick, lost_snoc, lost_out, lost_was_cut, lawful_stays, in_after, ran_first}
 use Rattle.pair_core.proofs.Logs.{same_is, other_is, has_is, down_is, down_by, good_shown, good_marked, shown_up, marked_up, pending_shows, last_place}
 use Rattle.pair_core.proofs.Added.{IsNext, is_next, fresh_side, good_added}
 
@@ -48,20 +48,41 @@ one_changed : (p : Setup) (l : Log) (parts : Parts) (s t : Side) (own : Own) (sa
 one_changed p l parts s t own true is all new = subst (λ v. IsSameSide p l v own) (sym (same_is t s is)) new
 one_changed p l parts s t own false is all new = all t
 
+own_put : (parts : Parts) (s : Side) (own : Own) → part_in (with_part parts s own) s ≡ own
+own_put parts A own = refl
+own_put parts B own = refl
+
 -- one side changed
 side_changed : (p : Setup) (l : Log) (parts : Parts) (s : Side) (own : Own) → AllSides p l parts → IsSameSide p l s own → AllSides p l (with_part parts s own)
 side_changed p l parts s own all new = sides_put p l parts s own (λ t. one_changed p l parts s t own (same_side t s) refl all new)
+
+-- a change of a side that leaves its place
+same_place : (parts : Parts) (s t : Side) (own : Own) → own.place ≡ (part_in parts s).place → (part_in (with_part parts s own) t).place ≡ (part_in parts t).place
+same_place parts A A own h = h
+same_place parts A B own h = refl
+same_place parts B A own h = refl
+same_place parts B B own h = h
+
+-- and so the last entry is taken by whom it was
+place_kept : (p : Setup) (w : World) (s : Side) (own : Own) → own.place ≡ (part w s).place → LastIsTaken p w → LastIsTaken p (record w { parts = with_part w.parts s own })
+place_kept p w s own same taken none = taken (λ t run. ap (λ k. k + 1) (sym (same_place w.parts s t own same)) ∙ none t run)
+
+-- a side that runs and has taken all entries
+someone_took : (p : Setup) (w : World) (s : Side) → runs (standing_in p w.log) s ≡ true → length w.log.entries ≤ (part w s).place → LastIsTaken p w
+someone_took p w s run here none = absurd (let one = none s run in omega (arith, here, one))
 
 -- the act can be done, and the record, the showings and the sides stay as they are to be
 pub record Keeps (p : Setup) (w : World) (s : Side) (act : Act) : Type 0 where
   pub can : CanAct p w s act
   pub log : GoodLog p (acted p w s act).world.log
   pub sides : AllSides p (acted p w s act).world.log (acted p w s act).world.parts
+  pub taken : LastIsTaken p (acted p w s act).world
 
 -- what holds of a world, but for who was answered Over
 pub record Fair (p : Setup) (w : World) : Type 0 where
   pub log : GoodLog p w.log
   pub sides : AllSides p w.log w.parts
+  pub taken : LastIsTaken p w
 
 keeps_over : (p : Setup) (w : World) (s : Side) (ending : Ended) → Fair p w → Keeps p w s (Over ending)
 keeps_over p w s ending good =
@@ -70,6 +91,7 @@ keeps_over p w s ending good =
       log = good.log;
       sides = side_changed p w.log w.parts s (record (part w s) { over = true }) good.sides
           (record { few = h.few; loaded = h.loaded; lost = h.lost; running = λ run. (let r = h.running run in record { near = r.near; alive = r.alive }) });
+      taken = place_kept p w s (record (part w s) { over = true }) refl good.taken;
     }
 
 dead_down : (down run : Bool) → (down || not run) ≡ true → run ≡ true → down ≡ true
@@ -91,6 +113,7 @@ keeps_dead p w s good out =
           alive = λ up. absurd (let down = dead_down (is_down p w.log s) (runs (standing_in p w.log) s) out run in cc);
         });
       });
+      taken = place_kept p w s (record (part w s) { alive = false }) refl good.taken;
     }
 
 -- a side that runs was not lost
@@ -114,6 +137,7 @@ keeps_take p w s good run up less =
         lost = λ j lost. absurd (runs_not_lost p w.log s good.log run j lost);
         running = λ _. record { near = omega (arith, r.near); alive = r.alive };
       });
+      taken = someone_took p (acted p w s Take).world s run (omega (arith, r.near, ap (λ (own : Own). own.place) (own_put w.parts s (taken_one (part w s)))));
     }
 
 -- outputs --------------------------------------------------------------------
@@ -162,6 +186,7 @@ keeps_show p w s fine good pending run up has turn =
       can = (some, few_shown p w.log s good.log (pending_shows p w.log good.log.shows pending) has);
       log = good_shown p w.log s fine good.log pending run up has turn;
       sides = sides_shown p w.log s w.parts some good.sides;
+      taken = good.taken;
     }
 
 keeps_mark : (p : Setup) (w : World) (s : Side) → IsPlan p.plan → Fair p w → is_pending w.log ≡ true → is_down p w.log s ≡ false → has_shown w.log s ≡ true → must_wait p w.log s ≡ false → Keeps p w s Mark
@@ -169,6 +194,7 @@ keeps_mark p w s fine good pending up has turn = record {
   can = some_entry p w.log good.log pending;
   log = good_marked p w.log s fine good.log pending up has turn;
   sides = sides_marked p w.log w.parts good.sides;
+  taken = good.taken;
 }
 
 -- an entry is added -----------------------------------------------------------
@@ -300,6 +326,19 @@ module _ (p : Setup) (w : World) (s : Side) (e : Entry) (good : Fair p w) (next 
   pub sides_added : AllSides p (with_entry w.log e) (with_part w.parts s (taken_one (part w s)))
   sides_added = sides_put p (with_entry w.log e) w.parts s (taken_one (part w s)) (λ t. each_side t (same_side t s) refl)
 
+  -- the visitor is not lost by the entry
+  stays : (b : Bool) → loses_by e.answer s ≡ b → runs (after (standing_in p w.log) e) s ≡ true
+  stays true is = absurd (let cut = lost_was_cut p.plan (standing_in p w.log) (watch_of w.log.entries) (length w.log.entries) e.request.ask e.answer s next.answer is in let sound = uncut in cc)
+  stays false is =
+      in_after (standing_in p w.log) e.answer s is (lawful_stays p.plan (standing_in p w.log) (watch_of w.log.entries) (length w.log.entries) e.request.ask e.answer next.answer) ∙ run
+
+  -- and it has taken it
+  pub taken_added : LastIsTaken p (record { log = with_entry w.log e; parts = with_part w.parts s (taken_one (part w s)) })
+  taken_added =
+      let still : runs (standing_in p (with_entry w.log e)) s ≡ true = rw (standing_snoc (first_standing p.solo) w.log.entries e) (stays (loses_by e.answer s) refl) in
+      someone_took p (record { log = with_entry w.log e; parts = with_part w.parts s (taken_one (part w s)) }) s still
+      (omega (arith, here, longer, ap (λ (own : Own). own.place) (own_put w.parts s (taken_one (part w s)))))
+
   pub log_added : GoodLog p (with_entry w.log e)
   log_added = good_added p w.log e s good.log next settled run uncut on
 
@@ -307,13 +346,15 @@ module _ (p : Setup) (w : World) (s : Side) (e : Entry) (good : Fair p w) (next 
 record After (p : Setup) (w : World) : Type 0 where
   log : GoodLog p w.log
   sides : AllSides p w.log w.parts
+  taken : LastIsTaken p w
 
 keeps_next : (p : Setup) (w : World) (s : Side) (o : Option Entry) → next_entry p w.log ≡ o → Fair p w → runs (standing_in p w.log) s ≡ true → is_down p w.log s ≡ false → is_pending w.log ≡ false
     → is_open p w.log ≡ true → length w.log.entries ≤ (part w s).place → waits_for_other p w s ≡ false → After p (appended w s o).world
-keeps_next p w s None is good run up settled on here other = record { log = good.log; sides = good.sides }
+keeps_next p w s None is good run up settled on here other = record { log = good.log; sides = good.sides; taken = good.taken }
 keeps_next p w s (Some e) is good run up settled on here other = record {
   log = log_added p w s e good (is_next p w.log e is) run up settled on here other;
   sides = sides_added p w s e good (is_next p w.log e is) run up settled on here other;
+  taken = taken_added p w s e good (is_next p w.log e is) run up settled on here other;
 }
 
 keeps_append : (p : Setup) (w : World) (s : Side) → Fair p w → ended p w ≡ None → runs (standing_in p w.log) s ≡ true → is_down p w.log s ≡ false → is_pending w.log ≡ false
@@ -327,18 +368,19 @@ keeps_append p w s good goes run up settled all other =
       can = ((h.running run).alive up, runs_loaded p w s good run, omega (arith, h.few, here), on);
       log = new.log;
       sides = new.sides;
+      taken = new.taken;
     }
 
 -- the visit, test by test ------------------------------------------------------
 
 keeps_other : (p : Setup) (w : World) (s : Side) (b : Bool) → waits_for_other p w s ≡ b → Fair p w → ended p w ≡ None → runs (standing_in p w.log) s ≡ true → is_down p w.log s ≡ false → is_pending w.log ≡ false
     → nat_lt (part w s).place (length w.log.entries) ≡ false → Keeps p w s (if b then Behind else Append)
-keeps_other p w s true is good goes run up settled all = record { can = tt; log = good.log; sides = good.sides }
+keeps_other p w s true is good goes run up settled all = record { can = tt; log = good.log; sides = good.sides; taken = good.taken }
 keeps_other p w s false is good goes run up settled all = keeps_append p w s good goes run up settled all is
 
 keeps_output : (p : Setup) (w : World) (s : Side) (wait shown : Bool) → must_wait p w.log s ≡ wait → has_shown w.log s ≡ shown → IsPlan p.plan → Fair p w → runs (standing_in p w.log) s ≡ true → is_down p w.log s ≡ false → is_pending w.log ≡ true
     → Keeps p w s (if wait then Unmarked else (if shown then Mark else Show))
-keeps_output p w s true shown is has fine good run up pending = record { can = some_entry p w.log good.log pending; log = good.log; sides = good.sides }
+keeps_output p w s true shown is has fine good run up pending = record { can = some_entry p w.log good.log pending; log = good.log; sides = good.sides; taken = good.taken }
 keeps_output p w s false true is has fine good run up pending = keeps_mark p w s fine good pending up has is
 keeps_output p w s false false is has fine good run up pending = keeps_show p w s fine good pending run up has is
 
@@ -377,4 +419,4 @@ keeps_from p w s None is fine good = keeps_on p w s (is_down p w.log s || not (r
 -- each visit can be done, and what it leaves is as it is to be
 pub keeps_chosen : (p : Setup) (w : World) (s : Side) → IsPlan p.plan → Good p w → Keeps p w s (choose p w s)
 unfolding choose
-keeps_chosen p w s fine good = keeps_from p w s (ended p w) refl fine (record { log = good.log; sides = good.sides })
+keeps_chosen p w s fine good = keeps_from p w s (ended p w) refl fine (record { log = good.log; sides = good.sides; taken = good.taken })

@@ -73,7 +73,7 @@ out_after st (Lost B why) A h = absurd cc
 out_after st (Lost B why) B h = refl
 out_after st answer s h = absurd cc
 
-in_after : (st : Standing) (a : Answer) (s : Side) → loses_by a s ≡ false → comes_back a ≡ false → runs (after_answer st a) s ≡ runs st s
+pub in_after : (st : Standing) (a : Answer) (s : Side) → loses_by a s ≡ false → comes_back a ≡ false → runs (after_answer st a) s ≡ runs st s
 in_after st (Lost A why) A h b = absurd cc
 in_after st (Lost A why) B h b = refl
 in_after st (Lost B why) A h b = refl

@@ -205,7 +205,3 @@ alone_visit p q w v A turn visits is fine good next same alone on =
     let now = alone_goes p w visits fine good next alone (sym (ap is_over is.answer) ∙ on) in
     subst (λ (x : World). IsAlone q x (visits + 1)) (sym is.world) (subst (λ (x : Setup). IsAlone x (step p w A).world (visits + 1)) (sym is.setup) now)
 alone_visit p q w v B turn visits is fine good next same alone on = absurd cc
-
--- side A runs to the end where it runs alone
-pub alone_runs : (p : Setup) (w : World) → Good p w → p.solo ≡ true → runs (standing_in p w.log) A ≡ true
-alone_runs p w good solo = (sole p w good solo).a

@@ -331,7 +331,7 @@ pending_output : (p : Setup) (l : Log) → is_pending l ≡ true → ends_by_out
 unfolding is_pending
 pending_output p l h = and_first (ends_by_output l.entries) (nat_lt l.marked (length l.entries)) h
 
-gone_is : (p : Setup) (l : Log) (s : Side) → GoodLog p l → is_open p l ≡ true → is_down p l s ≡ is_gone p.plan p.solo l.entries l.shown s
+pub gone_is : (p : Setup) (l : Log) (s : Side) → GoodLog p l → is_open p l ≡ true → is_down p l s ≡ is_gone p.plan p.solo l.entries l.shown s
 gone_is p l s good on =
     let n = length l.entries in
     let cut = is_cut p.plan s n in

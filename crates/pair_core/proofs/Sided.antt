@@ -12,7 +12,8 @@ use Rattle.s7_base.specs.declared.entry.Answer.{Answer}
 use Rattle.s7_base.specs.declared.entry.Answer.TheVariants.{Lost, Back, CpuStop}
 use Rattle.s7_base.specs.declared.entry.Entry.{Entry}
 use Rattle.s7_base.specs.declared.entry.StopCode.{StopCode}
-use Rattle.mc_machine.specs.Stands.{Stands}
+use Rattle.s7_base.specs.Blocks.{Program}
+use Rattle.mc_machine.specs.Stands.{Running, IsRunning, Stands}
 use Rattle.plant_script.specs.Plan.{Plan}
 use Rattle.subsystem.specs.declared.parts.Life.{Life}
 use Rattle.subsystem.specs.Part.{Part, first_life}
@@ -20,24 +21,25 @@ use Rattle.pair_core.specs.Monitor.{watch_by, is_overdue}
 use Rattle.pair_core.specs.declared.endings.Ended.{Ended}
 use Rattle.pair_core.specs.declared.endings.Ended.TheVariants.{End, Stop, NoneLeft, Spent, NotPlayed}
 use Rattle.pair_core.specs.declared.standing.Standing.{Standing}
-use Rattle.pair_core.specs.Sides.{same_side, runs, first_standing, after}
-use Rattle.pair_core.specs.Cuts.{is_cut, is_late}
+use Rattle.pair_core.specs.Sides.{runs, first_standing, after}
+use Rattle.pair_core.specs.Cuts.{is_cut}
 use Rattle.pair_core.specs.Stops.{stop_by}
 use Rattle.s7_base.specs.declared.entry.StopCode.TheVariants.{Cycle}
 use Rattle.pair_core.specs.Lawful.{IsPlainAnswer, IsMonitoredAnswer, IsLawfulAnswer, LawfulFrom}
 use Rattle.pair_core.specs.Losses.{loses_by, lost_from, lost_at}
 use Rattle.pair_core.specs.Lives.{Stretch, StretchEnd, with_run, Change, loses, keeps, change_of, ends_by, began_after, stretches_from, EndsAt, IsNext, IsLife, AreLivesOf, AreLives, place_of}
 use Rattle.pair_core.specs.Lives.StretchEnd.{lost_at as is_lost_at}
+use Rattle.pair_core.specs.Endings.{is_gone, is_found_cut}
 use Rattle.pair_core.specs.Played.{answers_of, IsSideOf}
-use Rattle.pair_core.specs.World.{Setup, World, part, standing_in, is_open, is_pending, has_shown, is_down, is_behind, ended}
+use Rattle.pair_core.specs.World.{Setup, Log, World, part, standing_in, is_open, is_down, is_behind, ended}
 use Rattle.pair_core.specs.Finished.{ended_by}
 use Rattle.pair_core.specs.Places.{lives_of, StandsAfter, IsAt}
 use Rattle.pair_core.specs.Text.{HasTail}
-use Rattle.pair_core.specs.Good.{IsSameSide, Good}
+use Rattle.pair_core.specs.Good.{GoodLog, IsSameSide, Good}
 use Rattle.pair_core.proofs.Losses.{comes_back, lawful_stays, not_lost, ran_first}
-use Rattle.pair_core.proofs.Logs.{down_is, down_by}
+use Rattle.pair_core.proofs.Logs.{down_is}
 use Rattle.pair_core.proofs.Opens.{take_all}
-use Rattle.pair_core.proofs.Runs.{Means, ended_means}
+use Rattle.pair_core.proofs.Runs.{Means, ended_means, gone_is}
 
 -- a loss for suspicion
 abbrev is_suspicion : Answer → Bool
@@ -170,20 +172,34 @@ side_lives p w s lives good is =
     let mine : lives ≡ (if began then record first_life { next = (part w s).place } ∷ [] else []) = is ∙ ap (λ b. if b then record first_life { next = (part w s).place } ∷ [] else []) (good.sides s).loaded in
     subst (λ l. LivesAt p w s began l) (sym mine) (lives_by p w s good began refl)
 
-uncut_up : (early cut late same pending shown : Bool) → cut ≡ false → down_by early cut late same pending shown ≡ false
-uncut_up true true late same pending shown h = absurd cc
-uncut_up true false late same pending shown h = refl
-uncut_up false cut late same pending shown h = refl
+-- the side is not cut as the visit reads it
+up_closed : (p : Setup) (l : Log) (s : Side) → is_open p l ≡ false → is_down p l s ≡ false
+up_closed p l s off = rw (down_is p l s, off)
+
+up_by : (p : Setup) (l : Log) (s : Side) (on : Bool) → is_open p l ≡ on → GoodLog p l → is_found_cut p.plan p.solo l.entries l.shown s ≡ false → is_down p l s ≡ false
+unfolding is_open
+up_by p l s true on good up = gone_is p l s good on ∙ (ap (λ b. b && is_gone p.plan p.solo l.entries l.shown s) (sym on) ∙ up)
+up_by p l s false on good up = up_closed p l s on
+
+stands_open : (program : Program) (given : List Answer) (machine : Option Running) → Stands program given machine → IsRunning machine
+stands_open program given None stands = absurd stands
+stands_open program given (Some running) stands = cc
+
+-- a machine that runs is one of a life that is open
+alive_by : (alive : Bool) (machine : Option Running) → IsRunning machine → (alive ≡ false → machine ≡ None) → alive ≡ true
+alive_by true machine on idle = refl
+alive_by false machine on idle = absurd (let off : IsRunning None = subst IsRunning (idle refl) on in cc)
 
 -- a subsystem that stands where the pair says is that of its side after the run
-pub side_of : (p : Setup) (w : World) (s : Side) (sub : Part) → Good p w → IsAt p.program (part w s) w.log.entries sub → IsSideOf p.program p.plan p.solo w.log.entries (ended_by p w) s sub
+pub side_of : (p : Setup) (w : World) (s : Side) (sub : Part) → Good p w → IsAt p.program (part w s) w.log.entries sub → IsSideOf p.program p.plan p.solo w.log.entries w.log.shown (ended_by p w) s sub
 side_of p w s sub good at_own = record {
   lives = side_lives p w s sub.lives good at_own.lives;
-  machine = λ run uncut. (
-      let n = length w.log.entries in
-      let up : is_down p w.log s ≡ false = down_is p w.log s ∙ uncut_up (is_open p w.log) (is_cut p.plan s n) (is_late p.plan s n) (same_side s (standing_in p w.log).master) (is_pending w.log) (has_shown w.log s) uncut in
-      let alive = ((good.sides s).running run).alive up in
-      let stands = (at_own.machine alive).stands in
+  lasts = λ run uncut. (
+      let alive = ((good.sides s).running run).alive (up_by p w.log s (is_open p w.log) refl good.log uncut) in
+      stands_open p.program (answers_of (take (part w s).place w.log.entries)) sub.machine (at_own.machine alive).stands
+      );
+  machine = λ run on. (
+      let stands = (at_own.machine (alive_by (part w s).alive sub.machine on at_own.idle)).stands in
       let loaded : (part w s).loaded ≡ true = (good.sides s).loaded ∙ ran_first p.plan s (first_standing p.solo) None None 0 w.log.entries good.log.same.lawful run in
       let place : place_of sub.lives ≡ (part w s).place = ap place_of at_own.lives ∙ ap (λ b. place_of (if b then record first_life { next = (part w s).place } ∷ [] else [])) loaded in
       let taken : take (place_of sub.lives) (answers_of w.log.entries) ≡ answers_of (take (part w s).place w.log.entries) =
@@ -202,16 +218,10 @@ ends_whole p w s (Some Spent) m tail run h = absurd m
 ends_whole p w s (Some NotPlayed) m tail run h = absurd m
 ends_whole p w s None m tail run h = absurd tail
 
-closed_up : (on cut late same pending shown : Bool) → on ≡ false → down_by on cut late same pending shown ≡ false
-closed_up false cut late same pending shown h = refl
-closed_up true cut late same pending shown h = absurd cc
-
 -- of a run that has a tail, the machine of each side that runs is the standard CPU's after all entries
 pub last_stands : (p : Setup) (w : World) (s : Side) (sub : Part) → Good p w → HasTail (ended_by p w) → runs (standing_in p w.log) s ≡ true
     → IsAt p.program (part w s) w.log.entries sub → StandsAfter p.program w.log.entries sub.machine
 last_stands p w s sub good tail run at_own =
-    let n = length w.log.entries in
     let whole = ends_whole p w s (ended p w) (ended_means p w) tail run (good.sides s) in
-    let up : is_down p w.log s ≡ false = down_is p w.log s ∙ closed_up (is_open p w.log) (is_cut p.plan s n) (is_late p.plan s n) (same_side s (standing_in p w.log).master) (is_pending w.log) (has_shown w.log s) whole.0 in
-    let alive = ((good.sides s).running run).alive up in
+    let alive = ((good.sides s).running run).alive (up_closed p w.log s whole.0) in
     subst (λ es. StandsAfter p.program es sub.machine) (take_all w.log.entries (part w s).place whole.1) (at_own.machine alive)

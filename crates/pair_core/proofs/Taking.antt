@@ -1,5 +1,5 @@
 -- A subsystem takes an entry of the record.
-use Rattle.std.proofs.Common.{arith, length-append, ◌≡◌, ◌∙◌, ℕ, ◌+◌, ◌≤◌, true, false, List, [], ◌∷◌, ◌++◌, length, take, drop, Option, Some, None, refl, ap, sym, subst, append_assoc, append-nil, add-zero, add-one, slice_get}
+use Rattle.std.proofs.Common.{arith, length-append, ◌≡◌, ◌∙◌, ℕ, ◌+◌, ◌≤◌, true, false, List, [], ◌∷◌, ◌++◌, length, take, drop, Option, Some, None, refl, ap, sym, subst, append_assoc, append-nil, add-zero, zero-add, add-one, slice_get}
 use Rattle.std.proofs.lemmas.List.{take-append-drop, take_more, take_all, length-map, length-take-le}
 use Rattle.std.proofs.lemmas.Option.{slice_get_within, get_or_from_slice_get}
 use Rattle.std.proofs.Math.Seq.{drop-cons}
@@ -10,7 +10,7 @@ use Rattle.s7_base.specs.declared.entry.Answer.{Answer}
 use Rattle.s7_base.specs.declared.entry.Entry.{Entry}
 use Rattle.s7_base.specs.declared.entry.StopCode.{StopCode}
 use Rattle.s7_base.specs.Blocks.{Program}
-use Rattle.mc_machine.specs.Meaning.{std, next_of, asked_after, takes, stops_cpu}
+use Rattle.mc_machine.specs.Meaning.{std, next_of, asked_after, takes, is_dated, stops_cpu}
 use Rattle.mc_machine.specs.Stands.{Running, CanAsk, CanTake, CanGoOn, IsTaken, GoesOn, WaitsAt, Stands, CpuWaits}
 use Rattle.subsystem.specs.declared.parts.Life.{Life}
 use Rattle.subsystem.specs.Part.{Part, first_life, TookOne}
@@ -28,7 +28,7 @@ use Rattle.pair_core.specs.Places.{lives_of, IsAt}
 use Rattle.pair_core.specs.Good.{GoodLog}
 use Rattle.pair_core.proofs.Lasts.{stop_snoc}
 use Rattle.pair_core.proofs.Snoc.{shift, answers_snoc}
-use Rattle.pair_core.proofs.Answers.{lawful_takes, not_stopping}
+use Rattle.pair_core.proofs.Answers.{lawful_takes, lawful_dated, not_stopping}
 
 -- an entry in the middle of a lawful record may stand there
 lawful_mid : (plan : Plan) (st : Standing) (before : Option StopCode) (watch : Option ℕ) (k : ℕ) (front : List Entry) (e : Entry) (rest : List Entry)
@@ -60,6 +60,7 @@ split_at es k e here = sym (take-append-drop k es) ∙ ap (λ (l : List Entry). 
 pub record IsMet (p : Setup) (l : Log) (k : ℕ) (e : Entry) : Type 0 where
   pub going : stop_of (take k l.entries) ≡ None
   pub fits : takes e.request e.answer ≡ true
+  pub dated : is_dated k e.answer ≡ true
   pub asked : next_of (std p.program (answers_of (take k l.entries))) ≡ Some e.request
 
 pub met : (p : Setup) (l : Log) (k : ℕ) (e : Entry) → GoodLog p l → slice_get l.entries k ≡ Some e → IsMet p l k e
@@ -72,6 +73,9 @@ met p l k e good here =
     record {
       going = may.going;
       fits = lawful_takes p.plan (standing_from (first_standing p.solo) front) (watch_from None 0 front) (0 + length front) e.request e.answer may.answer;
+      dated =
+          subst (λ n. is_dated n e.answer ≡ true) (zero-add (length front) ∙ length-take-le k l.entries (let within = slice_get_within l.entries k e here in omega arith))
+          (lawful_dated p.plan (standing_from (first_standing p.solo) front) (watch_from None 0 front) (0 + length front) e.request.ask e.answer may.answer);
       asked = asked_mid p.program [] front e rest (subst (λ es. requests_of es ≡ asked_after p.program [] (answers_of es)) is good.same.requests);
     }
 

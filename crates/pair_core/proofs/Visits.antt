@@ -1,7 +1,8 @@
 -- A visit of a good world can be done, and leaves a good world; the first world is good.
-use Rattle.std.proofs.Common.{◌≡◌, ◌+◌, true, refl, arith, inl, is_some}
+use Rattle.std.proofs.Common.{◌≡◌, ℕ, ◌+◌, true, List, [], refl, sym, subst, arith, inl, is_some}
 use Rattle.s7_base.specs.declared.entry.Side.{Side}
 use Rattle.s7_base.specs.declared.entry.Side.TheVariants.{A, B}
+use Rattle.s7_base.specs.declared.entry.Entry.{Entry}
 use Rattle.plant_script.specs.Plan.{IsPlan}
 use Rattle.pair_core.specs.World.{Setup, World, choose, step, first_world, part, ended}
 use Rattle.pair_core.specs.Kept.{CanAct}
@@ -15,7 +16,7 @@ can_visit p w s fine good = (keeps_chosen p w s fine good).can
 pub keeps : (p : Setup) (w : World) (s : Side) → IsPlan p.plan → Good p w → Good p (step p w s).world
 keeps p w s fine good =
     let h = keeps_chosen p w s fine good in
-    record { log = h.log; sides = h.sides; over = over_kept p w s good.over }
+    record { log = h.log; sides = h.sides; taken = h.taken; over = over_kept p w s good.over }
 
 first_side : (p : Setup) (s : Side) → IsSameSide p (first_world p.solo).log s (part (first_world p.solo) s)
 first_side p A = record { few = omega arith; loaded = refl; lost = λ j h. absurd cc; running = λ run. record { near = omega arith; alive = λ up. refl } }
@@ -28,5 +29,13 @@ good_first p fine = record {
     shows = inl (record { shown = refl; marked = refl });
   };
   sides = first_side p;
+  taken = λ none. absurd (let one : 0 + 1 ≡ 0 = none A refl in omega arith);
   over = λ s. elim s as (λ t. (part (first_world p.solo) t).over ≡ true → is_some (ended p (first_world p.solo)) ≡ true) [ A ↦ λ up. absurd cc | B ↦ λ up. absurd cc ];
 }
+
+-- a world that begins with no entry and no showing is the first one
+pub good_begun : (p : Setup) (es : List Entry) (shown : List (ℕ × Side)) → IsPlan p.plan → es ≡ [] → shown ≡ []
+    → Good p (record { log = record { entries = es; shown = shown; marked = 0 }; parts = (first_world p.solo).parts })
+good_begun p es shown fine none unshown =
+    subst (λ xs. Good p (record { log = record { entries = xs; shown = shown; marked = 0 }; parts = (first_world p.solo).parts })) (sym none)
+    (subst (λ xs. Good p (record { log = record { entries = []; shown = xs; marked = 0 }; parts = (first_world p.solo).parts })) (sym unshown) (good_first p fine))

@@ -1,5 +1,5 @@
 -- How a run ended, by its record and its showings.
-use Rattle.std.specs.Prelude.{◌≡◌, ℕ, ◌-◌, ◌<◌, ◌==◌, Bool, true, false, not, ◌&&◌, ◌||◌, List, [], ◌∷◌, length, take, Some, None}
+use Rattle.std.specs.Prelude.{◌≡◌, ℕ, ◌-◌, ◌<◌, ◌==◌, Bool, true, false, not, ◌&&◌, ◌||◌, nat_lt, List, [], ◌∷◌, length, take, Some, None, is_some}
 use mathlib.Core.List.{IsPrefix}
 use Rattle.s7_base.specs.declared.entry.Side.{Side}
 use Rattle.s7_base.specs.declared.entry.Side.TheVariants.{A, B}
@@ -36,6 +36,15 @@ is_gone plan solo es shown side =
 
 abbrev pub stays_in : Plan → Bool → List Entry → List (ℕ × Side) → Side → Bool
 stays_in plan solo es shown side = runs (standing solo es) side && not (is_gone plan solo es shown side)
+
+-- another entry may follow: the record is not full, and its last entry does not stop the CPU
+abbrev pub may_grow : Plan → List Entry → Bool
+may_grow plan es = nat_lt (length es) plan.end && not (is_some (stop_of es))
+
+-- A visit finds the side cut after these entries and showings: the script stops it at the moment after them, and if it is a late
+-- master it has shown the last output; but nobody is cut from the entry on that ends the run.
+abbrev pub is_found_cut : Plan → Bool → List Entry → List (ℕ × Side) → Side → Bool
+is_found_cut plan solo es shown side = may_grow plan es && is_gone plan solo es shown side
 
 -- by a stop: the last entry stops the CPU; at the end: the record is full; by none: no side is left; spent: only with two
 -- sides and given letters, while a side is left or all that is missing are the takings and marks

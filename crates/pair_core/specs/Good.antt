@@ -1,6 +1,8 @@
 -- What holds of a world that was reached by visits.
 use Rattle.std.specs.Prelude.{ℕ, ◌+◌, ◌≡◌, ◌≤◌, Bool, true, false, ◌&&◌, ◌||◌, not, if◌then◌else◌, ◌⊎◌, List, [], ◌∷◌, ◌++◌, length, Some, is_some}
 use Rattle.s7_base.specs.declared.entry.Side.{Side}
+use Rattle.s7_base.specs.declared.entry.Loss.TheVariants.{Suspect}
+use Rattle.s7_base.specs.declared.entry.Answer.TheVariants.{Lost}
 use Rattle.s7_base.specs.declared.entry.Entry.{Entry}
 use Rattle.mc_machine.specs.Meaning.{asked}
 use Rattle.pair_core.specs.declared.own.Own.{Own}
@@ -85,6 +87,18 @@ pub record IsSameSide (p : Setup) (l : Log) (s : Side) (own : Own) : Type 0 wher
   -- where it was lost it had taken all entries before that, or all but one
   pub lost : (j : ℕ) → lost_at l.entries s ≡ Some j → IsNear own.place j
 
+-- the last entry is the loss of a side for suspicion
+pub record EndsBySuspicion (es : List Entry) : Type 0 where
+  pub front : List Entry
+  pub last : Entry
+  pub is : es ≡ front ++ last ∷ []
+  pub side : Side
+  pub lost : last.answer ≡ Lost side Suspect
+
+-- where every side that runs has taken all entries but the last, a side was lost by that entry, which it appended itself
+abbrev pub LastIsTaken : Setup → World → Type 0
+LastIsTaken p w = ((s : Side) → runs (standing_in p w.log) s ≡ true → (part w s).place + 1 ≡ length w.log.entries) → EndsBySuspicion w.log.entries
+
 -- a side was answered Over only once the run has ended
 abbrev pub OverIsEnded : Setup → World → Type 0
 OverIsEnded p w = (s : Side) → (part w s).over ≡ true → is_some (ended p w) ≡ true
@@ -93,4 +107,5 @@ OverIsEnded p w = (s : Side) → (part w s).over ≡ true → is_some (ended p w
 pub record Good (p : Setup) (w : World) : Type 0 where
   pub log : GoodLog p w.log
   pub sides : (s : Side) → IsSameSide p w.log s (part w s)
+  pub taken : LastIsTaken p w
   pub over : OverIsEnded p w

@@ -1,5 +1,5 @@
 -- What a play is, over its record, its showings, its end and its subsystems.
-use Rattle.std.specs.Prelude.{◌≡◌, ℕ, Bool, true, false, List, length, map, take, Option, Some}
+use Rattle.std.specs.Prelude.{◌≡◌, ℕ, Bool, true, false, List, map, take, Option, Some}
 use Rattle.s7_base.specs.declared.entry.Side.{Side}
 use Rattle.s7_base.specs.declared.entry.Request.{Request}
 use Rattle.s7_base.specs.declared.entry.Answer.{Answer}
@@ -9,12 +9,11 @@ use Rattle.mc_machine.specs.Meaning.{asked}
 use Rattle.mc_machine.specs.Stands.{Stands}
 use Rattle.pair_core.specs.declared.endings.Ended.{Ended}
 use Rattle.plant_script.specs.Plan.{Plan}
-use Rattle.pair_core.specs.Cuts.{is_cut}
 use Rattle.pair_core.specs.Sides.{runs, standing}
 use Rattle.pair_core.specs.Lawful.{Lawful}
-use Rattle.pair_core.specs.Endings.{IsEnded, IsShown}
+use Rattle.pair_core.specs.Endings.{is_found_cut, IsEnded, IsShown}
 use Rattle.pair_core.specs.Lives.{AreLives, place_of}
-use Rattle.subsystem.specs.Part.{Part}
+use Rattle.subsystem.specs.Part.{Part, IsOpen}
 
 abbrev pub requests_of : List Entry → List (Option Request)
 requests_of entries = map (λ entry. Some entry.request) entries
@@ -30,9 +29,9 @@ pub record IsRun (program : Program) (plan : Plan) (solo : Bool) (entries : List
   pub shown : IsShown plan solo entries ending showings
   pub ended : IsEnded plan solo entries showings ending
 
--- A subsystem after a run: its lives are those of its side, and where the side runs and is not cut its machine stands for
--- the CPU after as many answers as it took.
-pub record IsSideOf (program : Program) (plan : Plan) (solo : Bool) (entries : List Entry) (ended : Ended) (side : Side) (part : Part) : Type 0 where
+-- A subsystem after a run. Its lives are those of its side. While the side runs its life is open, unless a visit finds the side cut;
+-- and where the life of a side that runs is open, its machine stands for the CPU after as many answers as the side took.
+pub record IsSideOf (program : Program) (plan : Plan) (solo : Bool) (entries : List Entry) (showings : List (ℕ × Side)) (ended : Ended) (side : Side) (part : Part) : Type 0 where
   pub lives : AreLives solo entries ended side part.lives
-  pub machine : runs (standing solo entries) side ≡ true → is_cut plan side (length entries) ≡ false
-      → Stands program (take (place_of part.lives) (answers_of entries)) part.machine
+  pub lasts : runs (standing solo entries) side ≡ true → is_found_cut plan solo entries showings side ≡ false → IsOpen part
+  pub machine : runs (standing solo entries) side ≡ true → IsOpen part → Stands program (take (place_of part.lives) (answers_of entries)) part.machine

@@ -1,5 +1,5 @@
 -- The pair as a machine of visits.
-use Rattle.std.specs.Prelude.{ℕ, ◌+◌, ◌-◌, ◌==◌, Bool, true, false, ◌&&◌, ◌||◌, not, if◌then◌else◌, nat_lt, List, [], ◌∷◌, ◌++◌, length, Option, Some, None, is_some}
+use Rattle.std.specs.Prelude.{ℕ, ◌+◌, ◌-◌, ◌==◌, Bool, true, false, ◌&&◌, ◌||◌, not, if◌then◌else◌, nat_lt, List, [], ◌∷◌, ◌++◌, length, Option, Some, None}
 use Rattle.s7_base.specs.declared.entry.Side.{Side}
 use Rattle.s7_base.specs.declared.entry.Side.TheVariants.{A, B}
 use Rattle.s7_base.specs.declared.entry.Entry.{Entry}
@@ -22,7 +22,7 @@ use Rattle.pair_core.specs.Sides.{same_side, other_side, runs, standing}
 use Rattle.pair_core.specs.declared.standing.Standing.{Standing}
 use Rattle.pair_core.specs.Cuts.{is_cut, is_late}
 use Rattle.pair_core.specs.Stops.{stop_of}
-use Rattle.pair_core.specs.Endings.{ends_by_output}
+use Rattle.pair_core.specs.Endings.{ends_by_output, may_grow}
 use Rattle.pair_core.specs.Played.{answers_of}
 use Rattle.pair_core.specs.Turns.{answer_at, is_over}
 use Rattle.pair_core.specs.Monitor.{watch_of}
@@ -60,9 +60,9 @@ part w s = part_in w.parts s
 abbrev pub standing_in : Setup → Log → Standing
 standing_in p l = standing p.solo l.entries
 
--- another entry may follow: the record is not full, and its last entry does not stop the CPU
+-- another entry may follow
 unfoldable pub is_open : Setup → Log → Bool
-is_open p l = nat_lt (length l.entries) p.plan.end && not (is_some (stop_of l.entries))
+is_open p l = may_grow p.plan l.entries
 
 -- the last entry is an output that is not marked
 unfoldable pub is_pending : Log → Bool

@@ -1,5 +1,5 @@
 //! What a visit does.
-ghost use Rattle.std.specs.Prelude.{◌≡◌, ◌+◌, ◌*◌, ◌<◌, ◌++◌, ◌∷◌, [], true, length, Some, is_some};
+ghost use Rattle.std.specs.Prelude.{◌≡◌, ◌+◌, ◌*◌, ◌<◌, ◌++◌, ◌∷◌, [], true, length, slice_get, Some, is_some};
 ghost use Rattle.mc_machine.specs.Stands.{IsAsked};
 ghost use Rattle.pair_core.specs.declared.turns.Act as Act;
 ghost use Rattle.pair_core.specs.Turns.{answer_at};
@@ -85,6 +85,14 @@ impl State {
         Turn::Show(entry)
     }
 
+    /// Entry k of the record.
+    fn entry_at(&self, k: u32) -> Entry
+        requires { k < length self.now.log.entries }
+        ensures { slice_get self.now.log.entries k ≡ Some result }
+    {
+        *self.log.entry(k)
+    }
+
     /// The side takes its next entry.
     fn take(&mut self, side: Side, sub: &mut Subsystem) -> Turn
         requires kept { IsKept self.old }
@@ -99,7 +107,7 @@ impl State {
     {
         let own = self.parts.get(side);
         let moment = own.place;
-        let entry = *self.log.entry(moment);
+        let entry = self.entry_at(moment);
         sub.ask();
         sub.take(&entry.answer, u64::from(moment));
         self.parts.put(

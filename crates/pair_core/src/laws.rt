@@ -1,13 +1,9 @@
-//! Laws of every pair: when a subsystem stands where the pair says, who runs, and how many records there are.
-ghost use Rattle.std.specs.Prelude.{Bool, List, true, ◌≡◌};
+//! Laws of every pair: when a subsystem stands where the pair says, and how many records there are.
+ghost use Rattle.std.specs.Prelude.{Bool, List};
 ghost use Rattle.s7_base.specs.declared.entry.Entry.{Entry};
 ghost use Rattle.s7_base.specs.Blocks.{Program};
 ghost use Rattle.subsystem.specs.Part.{Part};
 ghost use Rattle.pair_core.specs.declared.own.Own.{Own};
-ghost use Rattle.s7_base.specs.declared.entry.Side.TheVariants.{A};
-ghost use Rattle.pair_core.specs.Sides.{runs};
-ghost use Rattle.pair_core.specs.World.{Setup, World, standing_in};
-ghost use Rattle.pair_core.specs.Good.{Good};
 ghost use Rattle.pair_core.specs.Places.{LoadedStands, NewStands, AskedStands};
 ghost use Rattle.plant_script.specs.Plan.{Plan};
 ghost use Rattle.pair_core.specs.OneRecord.{OneBegins};
@@ -24,12 +20,6 @@ pub fn begins()
 #[tactic(auto, using(crate::proofs::Stands::asked_stands))]
 pub fn asking_stays()
     ensures { (own : Own) (es : List Entry) (program : Program) (old new : Part) → AskedStands own es program old new }
-{}
-
-/// Side A runs to the end where it runs alone.
-#[tactic(auto, using(crate::proofs::Progress::alone_runs))]
-pub fn alone_runs()
-    ensures { (p : Setup) (w : World) → Good p w → p.solo ≡ true → runs (standing_in p w.log) A ≡ true }
 {}
 
 /// Of two records of one program and one script, whose requests are the standard CPU's and whose answers are lawful,

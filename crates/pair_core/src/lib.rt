@@ -16,10 +16,7 @@ mod state;
 mod turns;
 
 pub use endings::{Ended, Mode, SystemState};
-pub use laws::{alone_runs, asking_stays, begins, one_begins};
+pub use laws::{asking_stays, begins, one_begins};
 pub use pair::Pair;
 pub use showings::Shown;
 pub use turns::{Reason, Turn};
-
-#[cfg(test)]
-mod tests;

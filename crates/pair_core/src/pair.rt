@@ -1,6 +1,7 @@
 //! The pair.
-ghost use Rattle.std.specs.Prelude.{ℕ, true, false, ◌≡◌, ◌+◌, ◌||◌, Some, is_some, length, IfOk};
+ghost use Rattle.std.specs.Prelude.{ℕ, true, false, ◌≡◌, ◌+◌, ◌||◌, Some, None, is_some, length, IfOk};
 ghost use mathlib.Core.List.{IsPrefix};
+ghost use Rattle.plant_script.specs.Plan.{first_alarm_or_job};
 ghost use Rattle.pair_core.specs.Sides.{other_side, runs};
 ghost use Rattle.pair_core.specs.Turns.{is_over};
 ghost use Rattle.pair_core.specs.World.{part, step, ended, standing_in, first_world};
@@ -53,6 +54,8 @@ impl Pair {
     /// A pair that was not visited yet, for these blocks and this script, with both sides, or with side A alone.
     #[tactic(auto, using(crate::proofs::Visits::good_first))]
     pub fn new(alloc: Global, blocks: &Blocks, script: Script, solo: bool) -> Result<Pair, NoMemory>
+        // Alarms and jobs are not answered yet.
+        requires { first_alarm_or_job script ≡ None }
         ensures setup { IfOk result (λ pair. pair.setup ≡ record { program = blocks.now; plan = script; solo = solo }) }
         ensures world { IfOk result (λ pair. pair.world ≡ first_world solo) }
         ensures good { IfOk result (λ pair. Good pair.setup pair.world) }
@@ -188,10 +191,11 @@ impl Pair {
         ensures good { Good self.setup self.world }
 
         // The record is the standard CPU's and lawful, and the showings and the end follow from it; and a subsystem
-        // that stands where the pair says has the lives and the machine of its side.
+        // that stands where the pair says has the lives of its side. Where that side runs, its life is open unless a
+        // visit finds the side cut, and where the life is open its machine is the standard CPU's after its place.
         ensures run { MayEnd self.setup self.world → IsRun self.setup.program self.setup.plan self.setup.solo self.world.log.entries self.world.log.shown result.2 }
         ensures sides { (side : Side) (sub : Part) → IsAt self.setup.program (part self.world side) self.world.log.entries sub
-            → IsSideOf self.setup.program self.setup.plan self.setup.solo self.world.log.entries result.2 side sub }
+            → IsSideOf self.setup.program self.setup.plan self.setup.solo self.world.log.entries self.world.log.shown result.2 side sub }
 
         // Where the run has a tail, the machine of each side that runs is the standard CPU's after all entries.
         ensures last { HasTail result.2 → (side : Side) (sub : Part) → runs (standing_in self.setup self.world.log) side ≡ true

@@ -19,10 +19,6 @@ pub use real_files::{Opener, RealFiles, StdOpener};
 pub use real_sink::RealSink;
 pub use sink::{Failed, Sink};
 
-/// Memory ran out.
-#[derive(Clone, Copy, Debug, PartialEq, Eq)]
-pub struct NoMemory;
-
 #[cfg(test)]
 mod tests {
     use super::*;

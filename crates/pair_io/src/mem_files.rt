@@ -3,8 +3,8 @@ ghost use Rattle.std.specs.Prelude.{◌≡◌, ◌≢◌, ℕ, ◌≤◌, ◌<�
 ghost use Rattle.pair_io.specs.Names.{content_under, place_of};
 ghost use Rattle.pair_io.specs.Files.{Reads, HasLength, CountsByName};
 
-use crate::{Files, FilesError, NoMemory};
-use std::alloc::Global;
+use crate::{Files, FilesError};
+use std::alloc::{AllocError, Global};
 
 /// Files in memory, of which chosen reads fail.
 ///
@@ -59,7 +59,7 @@ impl MemFiles {
         names: Vec<Vec<u8>>,
         contents: Vec<Vec<u8>>,
         failing: Vec<u64>,
-    ) -> Result<MemFiles, NoMemory>
+    ) -> Result<MemFiles, AllocError>
         requires { length names.items ≡ length contents.items }
         ensures content { IfOk result (λ files. (name : List ℕ) →
             content_of files name ≡ content_under names.items contents.items name) }
@@ -68,9 +68,7 @@ impl MemFiles {
         ensures reads { IfOk result (λ files. read_count files ≡ 0) }
         ensures failing { IfOk result (λ files. failing_reads files ≡ failing.items) }
     {
-        let Ok(faults) = vec![in alloc; 0; names.len()] else {
-            return Err(NoMemory);
-        };
+        let faults = vec![in alloc; 0; names.len()]?;
         Ok(MemFiles {
             names,
             contents,

@@ -4,8 +4,8 @@ ghost use Rattle.std.specs.Io.KnownBytes.{Appends};
 ghost use Rattle.pair_io.specs.Bytes.{AppendsFront};
 ghost use Rattle.pair_io.specs.Causes.{Counts};
 
-use crate::{Failed, NoMemory, Sink};
-use std::alloc::Global;
+use crate::{Failed, Sink};
+use std::alloc::{AllocError, Global};
 
 /// A sink in memory, of which chosen writes fail. It keeps one count of faults.
 #[derive(Drop)]
@@ -36,18 +36,15 @@ impl MemSink {
 
     /// An empty sink with room for so many bytes. `failing` has the numbers, from 0, of the writes that
     /// are to fail.
-    pub fn new(alloc: Global, room: u32, failing: Vec<u64>) -> Result<MemSink, NoMemory>
+    pub fn new(alloc: Global, room: u32, failing: Vec<u64>) -> Result<MemSink, AllocError>
         ensures empty { IfOk result (λ sink. written_bytes sink ≡ []) }
         ensures room { IfOk result (λ sink. room_of sink ≡ room) }
         ensures faults { IfOk result (λ sink. fault_count sink ≡ 0) }
         ensures writes { IfOk result (λ sink. write_count sink ≡ 0) }
         ensures failing { IfOk result (λ sink. failing_writes sink ≡ failing.items) }
     {
-        let Ok(bytes) = Vec::with_capacity(alloc, room as usize) else {
-            return Err(NoMemory);
-        };
         Ok(MemSink {
-            bytes,
+            bytes: Vec::with_capacity(alloc, room as usize)?,
             room,
             failing,
             writes: 0,

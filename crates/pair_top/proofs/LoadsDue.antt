@@ -59,7 +59,7 @@ module _ (source : File) (sink : Written) (account : Account) where
 
   complete : TellsProgram source → (HasFailed source → ⊥) → (Rose sink.before sink.now → ⊥) → (fault : Option Fault) → LoadServed source sink account fault → IsDone fault
   complete is reads takes None s = tt
-  complete is reads takes (Some SinkFault) s = takes s.3.1
+  complete is reads takes (Some SinkFault) s = takes s.3.1.0
   complete is reads takes (Some NoMemory) s = tt
   complete is reads takes (Some (FileFault which)) s = reads s.0.1
   complete is reads takes (Some (TooLong which)) s = not_long source is.bytes is.tells s.0.1

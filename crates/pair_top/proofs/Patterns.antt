@@ -8,11 +8,11 @@ use Rattle.std.specs.Str.{all_ascii_digits}
 use Rattle.std.specs.Char.{is_ascii_digit}
 use Rattle.std.proofs.lemmas.Bool.Decides.{nat_tests}
 use Rattle.s7_base.specs.declared.entry.Side.{Side}
-use Rattle.s7_base.specs.Instruction.{◌>>=◌}
-use Rattle.pair_top.specs.declared.pattern.TheConstants.{MOST_TIMES, MOST_LETTERS, MOST_VISITS}
-use Rattle.pair_top.specs.Fields.{split_at, value_from}
+use Rattle.s7_base.specs.Optional.{◌>>=◌}
+use Rattle.plant_script.specs.Fields.{split_at}
+use Rattle.pair_top.specs.Fields.{value_from}
 use Rattle.pair_top.proofs.Pieces.{split_takes}
-use Rattle.pair_top.specs.Pattern.{side_of, sides_from, sides_of, times_by, Repeated, visits_of_part, part_of, onto_first, pieces, parts_of, visits_in, visits_by, visits_of}
+use Rattle.pair_top.specs.Pattern.{most_letters, most_times, most_visits, side_of, sides_from, sides_of, times_by, Repeated, visits_of_part, part_of, onto_first, pieces, parts_of, visits_in, visits_by, visits_of}
 
 -- letters
 
@@ -36,7 +36,7 @@ pub value_grows : (n : ℕ) (ds : List ℕ) → n ≤ value_from n ds
 value_grows n [] = omega arith
 value_grows n (d ∷ ds) = let more = value_grows (10 * n + (d - 48)) ds in omega arith
 
-pub times_too_big : (digits : Bool) (v : ℕ) → MOST_TIMES < v → times_by digits v ≡ None
+pub times_too_big : (digits : Bool) (v : ℕ) → most_times < v → times_by digits v ≡ None
 times_too_big digits v big = grind (arith, nat_tests)
 
 pub no_digit : (d : ℕ) (ds : List ℕ) (v : ℕ) → is_ascii_digit d ≡ false → times_by (all_ascii_digits (d ∷ ds)) v ≡ None
@@ -70,7 +70,7 @@ pieces_split (b ∷ bs) = one_more_byte b bs (eqb b 44) (pieces_split bs)
 -- with so many visits before them the parts are not too many
 abbrev pub are_few : ℕ → Option (List Repeated) → Bool
 are_few before None = false
-are_few before (Some parts) = nat_le (before + visits_in parts) MOST_VISITS
+are_few before (Some parts) = nat_le (before + visits_in parts) most_visits
 
 chosen : (sides : List Side) (t u : Bool) → t ≡ u → is_some (cond t (Some sides) None) ≡ u
 chosen sides true u e = e
@@ -78,13 +78,13 @@ chosen sides false u e = e
 
 few_by : (o : Option (List Repeated)) → is_some (visits_by o) ≡ are_few 0 o
 few_by None = refl
-few_by (Some parts) = chosen (flat_map visits_of_part parts) (nat_le (visits_in parts) MOST_VISITS) (nat_le (0 + visits_in parts) MOST_VISITS) (grind (arith, nat_tests))
+few_by (Some parts) = chosen (flat_map visits_of_part parts) (nat_le (visits_in parts) most_visits) (nat_le (0 + visits_in parts) most_visits) (grind (arith, nat_tests))
 
 pub few_is : (word : List ℕ) → is_some (visits_of word) ≡ are_few 0 (parts_of (pieces word))
 unfolding visits_of
 few_is word = few_by (parts_of (pieces word))
 
-pub too_many : (before : ℕ) (o : Option (List Repeated)) → MOST_VISITS < before → are_few before o ≡ false
+pub too_many : (before : ℕ) (o : Option (List Repeated)) → most_visits < before → are_few before o ≡ false
 too_many before None big = refl
 too_many before (Some parts) big = grind (arith, nat_tests)
 
@@ -119,7 +119,7 @@ chosen_sides false o sides e = absurd cc
 pub sides_count : (letters : List ℕ) → is_some (sides_of letters) ≡ true → length (unwrap_or (sides_of letters) []) ≡ length letters
 sides_count letters some =
     let sides = unwrap_or (sides_of letters) [] in
-    length_from letters sides (chosen_sides (nat_le 1 (length letters) && nat_le (length letters) MOST_LETTERS) (sides_from letters) sides (known (sides_of letters) some))
+    length_from letters sides (chosen_sides (nat_le 1 (length letters) && nat_le (length letters) most_letters) (sides_from letters) sides (known (sides_of letters) some))
 
 -- what is left of a word gets shorter
 abbrev pub bytes_left : Option (Bor (List ℕ)) → ℕ
@@ -133,13 +133,13 @@ split_shorter d text w rest e =
     grind (arith, whole, length-append w (d ∷ rest))
 
 -- the digits read so far are too many
-pub too_many_times : (digits : List ℕ) (i n : ℕ) (total : Option ℕ) → i < length digits → MOST_TIMES < 10 * n + (get_or digits i 0 - 48)
+pub too_many_times : (digits : List ℕ) (i n : ℕ) (total : Option ℕ) → i < length digits → most_times < 10 * n + (get_or digits i 0 - 48)
     → times_by (all_ascii_digits (drop i digits)) (value_from n (drop i digits)) ≡ total → total ≡ None
 too_many_times digits i n total within big so_far =
     let here : drop i digits ≡ get_or digits i 0 ∷ drop (suc i) digits = drop-cons digits i 0 within in
     let v = value_from (10 * n + (get_or digits i 0 - 48)) (drop (suc i) digits) in
     let grows : 10 * n + (get_or digits i 0 - 48) ≤ v = value_grows (10 * n + (get_or digits i 0 - 48)) (drop (suc i) digits) in
-    let bigger : MOST_TIMES < v = omega arith in
+    let bigger : most_times < v = omega arith in
     sym so_far ∙ ap (λ ds. times_by (all_ascii_digits ds) (value_from n ds)) here
     ∙ times_too_big (all_ascii_digits (get_or digits i 0 ∷ drop (suc i) digits)) v bigger
 
@@ -154,7 +154,7 @@ counted word text piece ps before times letters first is some so_far =
     ∙ sym (good_part before piece part ps is) ∙ ap (λ l. are_few before (parts_of l)) (sym first) ∙ so_far
 
 -- nothing is left of a word whose visits are few
-pub all_counted : (word : List ℕ) (before : ℕ) → before ≤ MOST_VISITS → are_few before (parts_of []) ≡ are_few 0 (parts_of (pieces word)) → is_some (visits_of word) ≡ true
+pub all_counted : (word : List ℕ) (before : ℕ) → before ≤ most_visits → are_few before (parts_of []) ≡ are_few 0 (parts_of (pieces word)) → is_some (visits_of word) ≡ true
 all_counted word before few so_far =
-    let enough : nat_le (before + 0) MOST_VISITS ≡ true = grind (arith, nat_tests) in
+    let enough : nat_le (before + 0) most_visits ≡ true = grind (arith, nat_tests) in
     few_is word ∙ sym so_far ∙ enough

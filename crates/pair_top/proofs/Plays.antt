@@ -4,11 +4,10 @@ use Rattle.std.specs.Prelude.{nat_le, is_some, unwrap_or, if◌then◌else◌}
 use Rattle.std.specs.List.{flat_map}
 use Rattle.std.proofs.lemmas.List.{append-nil}
 use Rattle.s7_base.specs.declared.entry.Side.{Side}
-use Rattle.s7_base.specs.Instruction.{◌>>=◌}
+use Rattle.s7_base.specs.Optional.{◌>>=◌}
 use Rattle.pair_core.specs.World.{Setup, World, step, play}
 use Rattle.pair_core.specs.Turns.{is_over}
-use Rattle.pair_top.specs.declared.pattern.TheConstants.{MOST_VISITS}
-use Rattle.pair_top.specs.Pattern.{visits_in as visits_count, side_of, sides_from, Repeated, repeated, visits_of_part, part_of, pieces, parts_of, visits_by, visits_of}
+use Rattle.pair_top.specs.Pattern.{most_visits, visits_in as visits_count, side_of, sides_from, Repeated, repeated, visits_of_part, part_of, pieces, parts_of, visits_by, visits_of}
 use Rattle.pair_top.specs.WordsView.{visits_in}
 use Rattle.pair_top.specs.Playing.{Plays}
 
@@ -75,7 +74,7 @@ pattern_visits word some = by (parts_of (pieces word)) some
   where
     by : (o : Option (List Repeated)) → is_some (visits_by o) ≡ true → (is_some o ≡ true) × (unwrap_or (visits_by o) [] ≡ visits_left o)
     by None some = absurd cc
-    by (Some parts) some = (refl, chosen_visits (flat_map visits_of_part parts) (nat_le (visits_count parts) MOST_VISITS) some)
+    by (Some parts) some = (refl, chosen_visits (flat_map visits_of_part parts) (nat_le (visits_count parts) most_visits) some)
 
 -- one side
 

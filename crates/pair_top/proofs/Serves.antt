@@ -1,5 +1,5 @@
 -- What a call that plays answers, from what its play answers.
-use Rattle.std.proofs.Common.{◌≡◌, Bool, Option, Some, None, subst}
+use Rattle.std.proofs.Common.{◌≡◌, Bool, Option, Some, None, subst, inl}
 use Rattle.s7_base.specs.declared.entry.Side.{Side}
 use Rattle.s7_base.specs.Blocks.{Program}
 use Rattle.pair_top.specs.declared.faults.Fault.{Fault}
@@ -13,14 +13,14 @@ use Rattle.pair_core.specs.World.{Setup, World, first_world, play}
 use Rattle.pair_top.specs.Reading.{File}
 use Rattle.pair_top.specs.Orders.{Manner, is_alone, visits_for}
 use Rattle.pair_top.specs.Playing.{of_side}
-use Rattle.pair_top.specs.Serving.{Written, Account, AreAccepted, IsQuiet, IsRefusal, IsFinished, IsPlay, setup_of, ComesToTail, IsTailOf, IsWriting, play_text, IsOutcome, PlayServed}
+use Rattle.pair_top.specs.Serving.{Written, Account, AreNew, AreUnused, AreAccepted, IsQuiet, IsRefusal, IsFinished, IsPlay, setup_of, ComesToTail, IsTailOf, IsWriting, play_text, IsOutcome, PlayServed}
 
 module _ (manner : Manner) (source script : File) (sink : Written) (account : Account) (a b : Part) (program : Program) (plan : Plan)
     (accepted : AreAccepted source.content script.content program plan) where
   pub served : (fault : Option Fault) → IsOutcome manner program plan sink account a b fault → PlayServed manner source script sink account a b fault
   served None o = (program, plan, accepted, o)
   served (Some SinkFault) o = (program, plan, accepted, o)
-  served (Some NoMemory) o = (tt, o)
+  served (Some NoMemory) o = (tt, o.0, o.1)
   served (Some Usage) o = absurd o
   served (Some (FileFault which)) o = absurd o
   served (Some (TooLong which)) o = absurd o
@@ -28,17 +28,21 @@ module _ (manner : Manner) (source script : File) (sink : Written) (account : Ac
   served (Some (ScriptFault fault)) o = absurd o
   served (Some (Differs line)) o = absurd o
 
--- a refusal with which nothing was played and nothing written
+-- what is as it was made took no entry
+pub unused : (a b : Part) → AreNew a b → AreUnused a b
+unused a b new = record { first = inl new.first; second = inl new.second }
+
+-- a refusal with which nothing was played and nothing written, and both subsystems are as they were made
 pub refused : (manner : Manner) (source script : File) (sink : Written) (account : Account) (a b : Part) (fault : Fault)
-    → IsRefusal source script fault → IsQuiet sink account → PlayServed manner source script sink account a b (Some fault)
-refused manner source script sink account a b Usage r quiet = absurd r
-refused manner source script sink account a b (FileFault which) r quiet = (r, quiet)
-refused manner source script sink account a b (TooLong which) r quiet = (r, quiet)
-refused manner source script sink account a b (SourceFault fault) r quiet = (r, quiet)
-refused manner source script sink account a b (ScriptFault fault) r quiet = (r, quiet)
-refused manner source script sink account a b SinkFault r quiet = absurd r
-refused manner source script sink account a b NoMemory r quiet = (r, quiet)
-refused manner source script sink account a b (Differs line) r quiet = absurd r
+    → IsRefusal source script fault → IsQuiet sink account → AreNew a b → PlayServed manner source script sink account a b (Some fault)
+refused manner source script sink account a b Usage r quiet new = absurd r
+refused manner source script sink account a b (FileFault which) r quiet new = (r, quiet, new)
+refused manner source script sink account a b (TooLong which) r quiet new = (r, quiet, new)
+refused manner source script sink account a b (SourceFault fault) r quiet new = (r, quiet, new)
+refused manner source script sink account a b (ScriptFault fault) r quiet new = (r, quiet, new)
+refused manner source script sink account a b SinkFault r quiet new = absurd r
+refused manner source script sink account a b NoMemory r quiet new = (r, quiet, unused a b new)
+refused manner source script sink account a b (Differs line) r quiet new = absurd r
 
 -- a play whose text was written, or a front of it
 pub outcome : (manner : Manner) (program : Program) (plan : Plan) (sink : Written) (account : Account) (a b : Part) (tail : Tail) (fault : Option Fault)

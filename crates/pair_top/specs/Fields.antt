@@ -1,11 +1,5 @@
--- The parts of a word.
-use Rattle.std.specs.Prelude.{ℕ, List, [], ◌∷◌, Option, Some, None, ◌==◌, if◌then◌else◌, ◌+◌, ◌*◌, ◌-◌}
-use Rattle.std.specs.Option.{option_map}
-
--- the bytes before the first `end`, and those behind it
-abbrev pub split_at : ℕ → List ℕ → Option (List ℕ × List ℕ)
-split_at end [] = None
-split_at end (b ∷ bs) = if b == end then Some ([], bs) else option_map (λ p. (b ∷ p.0, p.1)) (split_at end bs)
+-- The value of digits.
+use Rattle.std.specs.Prelude.{ℕ, List, [], ◌∷◌, ◌+◌, ◌*◌, ◌-◌}
 
 -- the value of digits, whatever the bytes are
 abbrev pub value_from : ℕ → List ℕ → ℕ

@@ -1,3 +1,5 @@
+pub mod Connecting
+pub mod FaultText
 pub mod Fields
 pub mod Loading
 pub mod Orders

@@ -9,8 +9,9 @@ use Rattle.subsystem.specs.Part.{Part}
 use Rattle.pair_top.specs.declared.faults.Fault.{Fault}
 use Rattle.pair_top.specs.declared.faults.Fault.TheVariants.{Usage, FileFault, TooLong, SourceFault, SinkFault}
 use Rattle.pair_top.specs.Reading.{File, IsSteady, HasFailed, IsLoaded, IsLoadRefusal}
-use Rattle.pair_top.specs.Orders.{Order, play, load}
-use Rattle.pair_top.specs.Serving.{Written, Account, IsQuiet, IsUnplayed, IsWriting, PlayServed, AreSteady, IsDue, IsDone, Tells, TellsTooMuch, GivesWhatIsDue}
+use Rattle.pair_top.specs.Orders.{Order, play, load, connect}
+use Rattle.pair_top.specs.Connecting.{ConnectServed, ConnectsWhatIsDue}
+use Rattle.pair_top.specs.Serving.{Written, Account, IsQuiet, IsUnplayed, IsWriting, PlayServed, AreSteady, AreNew, IsDue, IsDone, Tells, TellsTooMuch, GivesWhatIsDue}
 
 -- a source was read whole, nothing was played, and the text of its blocks was written
 abbrev pub AreTold : File → Written → Account → Option Fault → Type 0
@@ -29,13 +30,15 @@ abbrev pub IsSteadyUnless : Option Fault → File → Type 0
 IsSteadyUnless (Some (FileFault which)) source = Unit {0}
 IsSteadyUnless fault source = IsSteady source
 
--- What a call answers and leaves, by its command.
+-- What a call answers and leaves, by its command. A call that plays nothing leaves both subsystems as they were made.
 abbrev pub Served : Option Order → (List ℕ → File) → Written → Account → Part → Part → Option Fault → Type 0
-Served None file sink account a b fault = (fault ≡ Some Usage) × IsQuiet sink account
+Served None file sink account a b fault = (fault ≡ Some Usage) × IsQuiet sink account × AreNew a b
 Served (Some (play manner source script)) file sink account a b fault =
     PlayServed manner (file source) (file script) sink account a b fault × AreSteady fault (file source) (file script)
 Served (Some (load source)) file sink account a b fault =
-    LoadServed (file source) sink account fault × IsSteadyUnless fault (file source)
+    LoadServed (file source) sink account fault × IsSteadyUnless fault (file source) × AreNew a b
+Served (Some (connect events)) file sink account a b fault =
+    ConnectServed (file events) sink account fault × IsSteadyUnless fault (file events) × AreNew a b
 
 -- completeness --
 
@@ -63,3 +66,4 @@ abbrev pub DueServed : Option Order → (List ℕ → File) → Written → Opti
 DueServed None file sink fault = Unit {0}
 DueServed (Some (play manner source script)) file sink fault = GivesWhatIsDue (file source) (file script) sink fault
 DueServed (Some (load source)) file sink fault = LoadsWhatIsDue (file source) sink fault
+DueServed (Some (connect events)) file sink fault = ConnectsWhatIsDue (file events) sink fault

@@ -25,7 +25,9 @@ abbrev pub mode_for : Manner → Mode
 mode_for alone = Solo
 mode_for (by_turns visits) = Pair
 
--- a command, with the names of its files: to play a source and a script, or to tell the blocks of a source
+-- a command, with the names of its files: to play a source and a script, to tell the blocks of a source, or to play the events
+-- of a connection
 pub data Order : Type 0 where
   play : (manner : Manner) (source script : List ℕ) → Order
   load : (source : List ℕ) → Order
+  connect : (events : List ℕ) → Order

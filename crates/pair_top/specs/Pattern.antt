@@ -4,9 +4,19 @@ use Rattle.std.specs.List.{flat_map}
 use Rattle.std.specs.Str.{all_ascii_digits}
 use Rattle.s7_base.specs.declared.entry.Side.{Side}
 use Rattle.s7_base.specs.declared.entry.Side.TheVariants.{A, B}
-use Rattle.s7_base.specs.Instruction.{◌>>=◌}
-use Rattle.pair_top.specs.declared.pattern.TheConstants.{MOST_TIMES, MOST_LETTERS, MOST_VISITS}
-use Rattle.pair_top.specs.Fields.{split_at, value_from}
+use Rattle.s7_base.specs.Optional.{◌>>=◌}
+use Rattle.plant_script.specs.Fields.{split_at}
+use Rattle.pair_top.specs.Fields.{value_from}
+
+-- a part has at most 64 letters, which are repeated at most 1,000,000 times; a pattern has at most 4,000,000 visits
+abbrev pub most_letters : ℕ
+most_letters = 64
+
+abbrev pub most_times : ℕ
+most_times = 1000000
+
+abbrev pub most_visits : ℕ
+most_visits = 4000000
 
 -- the side that a letter names: `a` or `b`
 abbrev pub side_of : ℕ → Option Side
@@ -21,11 +31,11 @@ sides_from (letter ∷ letters) = do
 
 -- the sides that 1 to 64 letters name
 abbrev pub sides_of : List ℕ → Option (List Side)
-sides_of letters = if nat_le 1 (length letters) && nat_le (length letters) MOST_LETTERS then sides_from letters else None
+sides_of letters = if nat_le 1 (length letters) && nat_le (length letters) most_letters then sides_from letters else None
 
 -- a number from 1 to 1,000,000, whose digits these are
 abbrev pub times_by : Bool → ℕ → Option ℕ
-times_by digits value = if digits && nat_le 1 value && nat_le value MOST_TIMES then Some value else None
+times_by digits value = if digits && nat_le 1 value && nat_le value most_times then Some value else None
 
 abbrev pub times_of : List ℕ → Option ℕ
 times_of digits = times_by (all_ascii_digits digits) (value_from 0 digits)
@@ -81,7 +91,7 @@ visits_in (part ∷ parts) = part.times * length part.sides + visits_in parts
 -- the visits that parts order, of which there are 4,000,000 at most
 abbrev pub visits_by : Option (List Repeated) → Option (List Side)
 visits_by None = None
-visits_by (Some parts) = if nat_le (visits_in parts) MOST_VISITS then Some (flat_map visits_of_part parts) else None
+visits_by (Some parts) = if nat_le (visits_in parts) most_visits then Some (flat_map visits_of_part parts) else None
 
 -- the visits that a word orders, if it is a pattern
 unfoldable pub visits_of : List ℕ → Option (List Side)

@@ -1,5 +1,5 @@
 -- What it means that a file was read, and accepted or refused.
-use Rattle.std.specs.Prelude.{◌≡◌, ℕ, ◌<◌, ◌≤◌, List, length, Option, IfSome, Result, Ok, Err}
+use Rattle.std.specs.Prelude.{◌≡◌, ℕ, ◌<◌, ◌≤◌, List, length, Option, Some, None, IfSome, Result, Ok, Err}
 use Rattle.pair_io.specs.Causes.{Rose}
 use Rattle.s7_base.specs.Blocks.{Program, IsPlayable}
 use Rattle.stl_lex.specs.declared.fault.LoadFault.{LoadFault}
@@ -7,35 +7,42 @@ use Rattle.block_loader.specs.Load.{meaning_of}
 use Rattle.pair_top.specs.declared.faults.Fault.{Fault}
 use Rattle.pair_top.specs.declared.faults.Fault.TheVariants.{Usage, FileFault, TooLong, SourceFault, ScriptFault, SinkFault, NoMemory, Differs}
 use Rattle.plant_script.specs.declared.script_error.ScriptFault as scripts
-use Rattle.pair_top.specs.declared.reading.TheConstants.{LIMIT}
-use Rattle.plant_script.specs.Plan.{Plan}
-use Rattle.plant_script.specs.ScriptText.{IsScript}
+use Rattle.plant_script.specs.Plan.{Plan, first_alarm_or_job}
+use Rattle.plant_script.specs.SecondPass.{script_of}
 
--- a file in a call: its content where it is told, and the count of its faults before the call and after it
-pub record File : Type 0 where
+-- the most bytes of a source or a script
+abbrev pub limit : ℕ
+limit = 1048576
+
+-- a file in a call: its content where it is told, the count of its faults before the call and after it, and the promise, where
+-- one was made before the call, that reads of it do not fail
+pub record File : Type 1 where
   pub content : Option (List ℕ)
   pub before : ℕ
   pub now : ℕ
+  pub never_fails : Type 0
 
-abbrev pub file_of : (List ℕ → Option (List ℕ)) → (List ℕ → ℕ) → (List ℕ → ℕ) → List ℕ → File
-file_of content before now name = record { content = content name; before = before name; now = now name }
+-- the file of a name in a call that found the files in one state and left them in another, by what files tell
+abbrev pub file_in : {S : Type 0} → (S → List ℕ → Option (List ℕ)) → (S → List ℕ → ℕ) → (S → List ℕ → Type 0) → S → S → List ℕ → File
+file_in content faults never_fails old new name =
+    record { content = content old name; before = faults old name; now = faults new name; never_fails = never_fails old name }
 
 -- no fault of the file was counted
 abbrev pub IsSteady : File → Type 0
 IsSteady file = file.now ≡ file.before
 
--- a fault of the file was counted
+-- a fault of the file was counted, and reads of it were not promised to be without one
 abbrev pub HasFailed : File → Type 0
-HasFailed file = Rose file.before file.now
+HasFailed file = Rose file.before file.now × (file.never_fails → ⊥)
 
 -- A file was read whole: these are its bytes. Where it tells no content, only their number is known.
 pub record WasRead (content : Option (List ℕ)) (bytes : List ℕ) : Type 0 where
   pub whole : IfSome content (λ told. bytes ≡ told)
-  pub fits : length bytes ≤ LIMIT
+  pub fits : length bytes ≤ limit
 
 -- a file has more bytes than the limit
 abbrev pub IsTooLong : Option (List ℕ) → Type 0
-IsTooLong content = IfSome content (λ told. LIMIT < length told)
+IsTooLong content = IfSome content (λ told. limit < length told)
 
 -- a file was read whole, and its source has this program
 pub record IsLoaded (content : Option (List ℕ)) (program : Program) : Type 0 where
@@ -69,21 +76,30 @@ pub record IsNoSource (content : Option (List ℕ)) (fault : LoadFault) : Type 0
   pub read : WasRead content bytes
   pub cause : IsNotPlayed fault (meaning_of bytes)
 
--- a file was read whole, and is a script of this plan
+-- the fault of a script without faults that has an alarm or a job, which are not supported yet: at the first of their lines
+abbrev pub script_not_built : ℕ → scripts.ScriptFault
+script_not_built line = record { kind = 99; line = line }
+
+abbrev pub without_requests : Option ℕ → Plan → Result Plan scripts.ScriptFault
+without_requests None plan = Ok plan
+without_requests (Some line) plan = Err (script_not_built line)
+
+-- why a script isn't played: its first fault, or that it has an alarm or a job
+abbrev pub played_script : Result Plan scripts.ScriptFault → Result Plan scripts.ScriptFault
+played_script (Err first) = Err first
+played_script (Ok plan) = without_requests (first_alarm_or_job plan) plan
+
+-- a file was read whole, and is a script of this plan, which is one that is played
 pub record IsPlanned (content : Option (List ℕ)) (plan : Plan) : Type 0 where
   pub bytes : List ℕ
   pub read : WasRead content bytes
-  pub script : IsScript bytes plan
+  pub script : played_script (script_of bytes) ≡ Ok plan
 
--- a file was read whole, and is no script
-pub record IsNoScript (content : Option (List ℕ)) : Type 0 where
+-- a file was read whole, and its script isn't played
+pub record IsNoScript (content : Option (List ℕ)) (fault : scripts.ScriptFault) : Type 0 where
   pub bytes : List ℕ
   pub read : WasRead content bytes
-  pub none : (plan : Plan) → IsScript bytes plan → ⊥
-
--- the fault of a script of another form than those that are played
-abbrev pub script_not_built : scripts.ScriptFault
-script_not_built = record { kind = 99; line = 0 }
+  pub cause : played_script (script_of bytes) ≡ Err fault
 
 -- why a file was not read; `which` is its number
 abbrev pub IsReadRefusal : ℕ → File → Fault → Type 0
@@ -122,7 +138,7 @@ IsSourceRefusal file (Differs line) = ⊥
 abbrev pub IsScriptRefusal : File → Fault → Type 0
 IsScriptRefusal file (FileFault which) = (which ≡ 1) × HasFailed file
 IsScriptRefusal file (TooLong which) = (which ≡ 1) × IsTooLong file.content
-IsScriptRefusal file (ScriptFault fault) = (fault ≡ script_not_built) × IsNoScript file.content
+IsScriptRefusal file (ScriptFault fault) = IsNoScript file.content fault
 IsScriptRefusal file NoMemory = Unit {0}
 IsScriptRefusal file Usage = ⊥
 IsScriptRefusal file (SourceFault fault) = ⊥

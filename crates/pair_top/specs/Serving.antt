@@ -1,5 +1,5 @@
 -- What a call of the program answers and leaves.
-use Rattle.std.specs.Prelude.{◌≡◌, ℕ, zero, suc, ◌≤◌, ◌<◌, Bool, List, [], length, Option, Some, None, Ok}
+use Rattle.std.specs.Prelude.{◌≡◌, ℕ, zero, suc, ◌+◌, ◌≤◌, ◌<◌, ◌⊎◌, Bool, List, [], ◌∷◌, length, Option, Some, None, Ok, Err}
 use Rattle.std.specs.Io.KnownBytes.{Appends}
 use Rattle.pair_io.specs.Bytes.{AppendsFront}
 use Rattle.pair_io.specs.Causes.{Rose}
@@ -11,16 +11,16 @@ use Rattle.pair_core.specs.declared.endings.Ended.{Ended}
 use Rattle.pair_core.specs.declared.endings.Ended.TheVariants.{NotPlayed}
 use Rattle.pair_top.specs.declared.faults.Fault.{Fault}
 use Rattle.pair_top.specs.declared.faults.Fault.TheVariants.{Usage, FileFault, TooLong, SourceFault, ScriptFault, SinkFault, NoMemory, Differs}
-use Rattle.pair_top.specs.declared.reading.TheConstants.{LIMIT}
 use Rattle.plant_script.specs.Plan.{Plan}
-use Rattle.subsystem.specs.Part.{Part, IsOpen}
+use Rattle.subsystem.specs.Part.{Part, IsNew, IsOpen, first_life}
 use Rattle.pair_core.specs.Played.{IsRun, IsSideOf, answers_of}
 use Rattle.pair_core.specs.World.{Setup, World, first_world, play}
 use Rattle.pair_core.specs.Finished.{ended_by}
-use Rattle.pair_top.specs.Reading.{File, IsSteady, HasFailed, IsTooLong, IsAccepted, IsPlanned, IsNoSource, IsNoScript, IsNotPlayed, script_not_built}
+use Rattle.pair_top.specs.Reading.{limit, File, IsSteady, HasFailed, IsTooLong, IsAccepted, IsPlanned, IsNoSource, IsNoScript, IsNotPlayed, played_script}
 use Rattle.stl_lex.specs.declared.fault.LoadFault.{LoadFault}
 use Rattle.block_loader.specs.Load.{meaning_of}
-use Rattle.plant_script.specs.ScriptText.{IsScript}
+use Rattle.plant_script.specs.declared.script_error.ScriptFault as scripts
+use Rattle.plant_script.specs.SecondPass.{script_of}
 use Rattle.pair_core.specs.CpuTail.{tail_of}
 use Rattle.pair_core.specs.Tail.{Tail}
 use Rattle.pair_core.specs.Text.{HasTail, text}
@@ -29,15 +29,19 @@ use Rattle.pair_top.specs.Playing.{ComesTo}
 
 -- a call --
 
--- the sink in a call: its bytes where they are told, and the count of its faults, before the call and after it
-pub record Written : Type 0 where
+-- the sink in a call: its bytes where they are told, and the count of its faults, before the call and after it; and the promise,
+-- where one was made before the call, to take so many bytes without a fault
+pub record Written : Type 1 where
   pub old : Option (List ℕ)
   pub new : Option (List ℕ)
   pub before : ℕ
   pub now : ℕ
+  pub takes : ℕ → Type 0
 
-abbrev pub written_in : Option (List ℕ) → Option (List ℕ) → ℕ → ℕ → Written
-written_in old new before now = record { old = old; new = new; before = before; now = now }
+-- the sink in a call that found it in one state and left it in another, by what a sink tells
+abbrev pub sink_in : {S : Type 0} → (S → Option (List ℕ)) → (S → ℕ) → (S → ℕ → Type 0) → S → S → Written
+sink_in written faults takes old new =
+    record { old = written old; new = written new; before = faults old; now = faults new; takes = takes old }
 
 -- what a call tells of a play: the record, its showings and its end
 pub record Account : Type 0 where
@@ -60,8 +64,8 @@ account_in p w = account_of w.log.entries w.log.shown (ended_by p w)
 pub record IsFinished (p : Setup) (w : World) (account : Account) (a b : Part) : Type 0 where
   pub visited : account ≡ account_in p w
   pub run : IsRun p.program p.plan p.solo account.entries account.shown account.ended
-  pub first : IsSideOf p.program p.plan p.solo account.entries account.ended A a
-  pub second : IsSideOf p.program p.plan p.solo account.entries account.ended B b
+  pub first : IsSideOf p.program p.plan p.solo account.entries account.shown account.ended A a
+  pub second : IsSideOf p.program p.plan p.solo account.entries account.shown account.ended B b
 
 -- a play of a program and a plan: the world is that of the visits which were ordered
 abbrev pub IsPlay : Manner → Program → Plan → Account → Part → Part → Type 0
@@ -97,6 +101,31 @@ pub record IsQuiet (sink : Written) (account : Account) : Type 0 where
   pub bytes : sink.new ≡ sink.old
   pub faults : sink.now ≡ sink.before
 
+-- both subsystems are as they were made
+pub record AreNew (a b : Part) : Type 0 where
+  pub first : IsNew a
+  pub second : IsNew b
+
+-- a subsystem is as it was made, or was loaded and took no entry
+abbrev pub IsUnused : Part → Type 0
+IsUnused part = IsNew part ⊎ (part.lives ≡ first_life ∷ [])
+
+pub record AreUnused (a b : Part) : Type 0 where
+  pub first : IsUnused a
+  pub second : IsUnused b
+
+-- what a refusal leaves of both subsystems: they are as they were made; where memory ran out one may have been loaded, and
+-- took no entry
+abbrev pub AreLeft : Fault → Part → Part → Type 0
+AreLeft NoMemory a b = AreUnused a b
+AreLeft Usage a b = AreNew a b
+AreLeft (FileFault which) a b = AreNew a b
+AreLeft (TooLong which) a b = AreNew a b
+AreLeft (SourceFault fault) a b = AreNew a b
+AreLeft (ScriptFault fault) a b = AreNew a b
+AreLeft SinkFault a b = AreNew a b
+AreLeft (Differs line) a b = AreNew a b
+
 -- why a play was refused, and that the files before the refused one were read whole and accepted
 abbrev pub IsRefusal : File → File → Fault → Type 0
 IsRefusal source script (FileFault zero) = HasFailed source
@@ -106,7 +135,7 @@ IsRefusal source script (TooLong zero) = IsTooLong source.content
 IsRefusal source script (TooLong (suc zero)) = (program : Program) × IsAccepted source.content program × IsTooLong script.content
 IsRefusal source script (TooLong (suc (suc n))) = ⊥
 IsRefusal source script (SourceFault fault) = IsNoSource source.content fault
-IsRefusal source script (ScriptFault fault) = (fault ≡ script_not_built) × (program : Program) × IsAccepted source.content program × IsNoScript script.content
+IsRefusal source script (ScriptFault fault) = (program : Program) × IsAccepted source.content program × IsNoScript script.content fault
 IsRefusal source script NoMemory = Unit {0}
 IsRefusal source script Usage = ⊥
 IsRefusal source script SinkFault = ⊥
@@ -117,10 +146,14 @@ abbrev pub AreSteady : Option Fault → File → File → Type 0
 AreSteady (Some (FileFault which)) source script = Unit {0}
 AreSteady fault source script = IsSteady source × IsSteady script
 
--- The text was written; or the sink counted a fault, and took a front of it.
+-- the sink counted a fault, and had not promised to take these bytes
+abbrev pub HasRefused : List ℕ → Written → Type 0
+HasRefused bytes sink = Rose sink.before sink.now × ((more : ℕ) → sink.takes (length bytes + more) → ⊥)
+
+-- The text was written; or the sink counted a fault, without a promise to take the text, and took a prefix of it.
 abbrev pub IsWriting : List ℕ → Written → Option Fault → Type 0
 IsWriting bytes sink None = Appends sink.old sink.new bytes × (sink.now ≡ sink.before)
-IsWriting bytes sink (Some SinkFault) = AppendsFront sink.old sink.new bytes × Rose sink.before sink.now
+IsWriting bytes sink (Some SinkFault) = AppendsFront sink.old sink.new bytes × HasRefused bytes sink
 IsWriting bytes sink (Some fault) = ⊥
 
 -- a play was made, and its text was written
@@ -129,11 +162,11 @@ IsPlayed manner program plan sink account a b fault =
     IsPlay manner program plan account a b × (tail : Tail) × IsTailOf program account tail × IsWriting (play_text manner account tail) sink fault
 
 -- What a play of an accepted source and script answers and leaves. Done, or with a fault of the sink: the play, and its
--- text or a front of it. Without memory: nothing played and nothing written.
+-- text or a prefix of it. Without memory: nothing played and nothing written, and no side took an entry.
 abbrev pub IsOutcome : Manner → Program → Plan → Written → Account → Part → Part → Option Fault → Type 0
 IsOutcome manner program plan sink account a b None = IsPlayed manner program plan sink account a b None
 IsOutcome manner program plan sink account a b (Some SinkFault) = IsPlayed manner program plan sink account a b (Some SinkFault)
-IsOutcome manner program plan sink account a b (Some NoMemory) = IsQuiet sink account
+IsOutcome manner program plan sink account a b (Some NoMemory) = IsQuiet sink account × AreUnused a b
 IsOutcome manner program plan sink account a b (Some Usage) = ⊥
 IsOutcome manner program plan sink account a b (Some (FileFault which)) = ⊥
 IsOutcome manner program plan sink account a b (Some (TooLong which)) = ⊥
@@ -146,12 +179,12 @@ abbrev pub IsPlayOf : Manner → File → File → Written → Account → Part 
 IsPlayOf manner source script sink account a b fault =
     (program : Program) × (plan : Plan) × AreAccepted source.content script.content program plan × IsPlayed manner program plan sink account a b fault
 
--- What a call that plays answers and leaves. With every fault but one of the sink: its cause, and nothing played and nothing
--- written.
+-- What a call that plays answers and leaves. With every fault but one of the sink: its cause, nothing played, nothing written,
+-- and what is left of the subsystems.
 abbrev pub PlayServed : Manner → File → File → Written → Account → Part → Part → Option Fault → Type 0
 PlayServed manner source script sink account a b None = IsPlayOf manner source script sink account a b None
 PlayServed manner source script sink account a b (Some SinkFault) = IsPlayOf manner source script sink account a b (Some SinkFault)
-PlayServed manner source script sink account a b (Some fault) = IsRefusal source script fault × IsQuiet sink account
+PlayServed manner source script sink account a b (Some fault) = IsRefusal source script fault × IsQuiet sink account × AreLeft fault a b
 
 -- completeness --
 
@@ -171,13 +204,13 @@ IsDue number due (Some fault) = fault ≡ due
 -- a file tells these bytes, within the limit
 pub record Tells (file : File) (bytes : List ℕ) : Type 0 where
   pub told : file.content ≡ Some bytes
-  pub fits : length bytes ≤ LIMIT
+  pub fits : length bytes ≤ limit
 
 -- a file tells more bytes than the limit
 pub record TellsTooMuch (file : File) : Type 0 where
   pub bytes : List ℕ
   pub told : file.content ≡ Some bytes
-  pub long : LIMIT < length bytes
+  pub long : limit < length bytes
 
 -- a file tells a source whose program is one that is played
 pub record TellsSource (file : File) : Type 0 where
@@ -193,18 +226,18 @@ pub record TellsNoSource (file : File) (due : LoadFault) : Type 0 where
   pub tells : Tells file bytes
   pub cause : IsNotPlayed due (meaning_of bytes)
 
--- a file tells a plant script
+-- a file tells a plant script that is played
 pub record TellsScript (file : File) : Type 0 where
   pub bytes : List ℕ
   pub tells : Tells file bytes
   pub plan : Plan
-  pub script : IsScript bytes plan
+  pub script : played_script (script_of bytes) ≡ Ok plan
 
--- a file tells bytes that are no plant script
-pub record TellsNoScript (file : File) : Type 0 where
+-- a file tells a plant script that isn't played, with this fault
+pub record TellsNoScript (file : File) (due : scripts.ScriptFault) : Type 0 where
   pub bytes : List ℕ
   pub tells : Tells file bytes
-  pub none : (plan : Plan) → IsScript bytes plan → ⊥
+  pub cause : played_script (script_of bytes) ≡ Err due
 
 -- Each refusal that is due comes, but for a file that fails before it, or want of memory; and where nothing is due and
 -- nothing outside fails, the command is done to its end, but for want of memory.
@@ -212,6 +245,6 @@ pub record GivesWhatIsDue (source script : File) (sink : Written) (fault : Optio
   pub long_source : TellsTooMuch source → IsDue 0 (TooLong 0) fault
   pub no_source : (due : LoadFault) → TellsNoSource source due → IsDue 0 (SourceFault due) fault
   pub long_script : TellsSource source → TellsTooMuch script → IsDue 1 (TooLong 1) fault
-  pub no_script : TellsSource source → TellsNoScript script → IsDue 1 (ScriptFault script_not_built) fault
+  pub no_script : (due : scripts.ScriptFault) → TellsSource source → TellsNoScript script due → IsDue 1 (ScriptFault due) fault
   pub complete : TellsSource source → TellsScript script → (HasFailed source → ⊥) → (HasFailed script → ⊥)
       → (Rose sink.before sink.now → ⊥) → IsDone fault

@@ -5,7 +5,7 @@ use Rattle.pair_top.specs.declared.words.Command.{Command}
 use Rattle.pair_top.specs.declared.words.Command.TheVariants as commands
 use Rattle.pair_top.specs.declared.play.Visits.{Visits}
 use Rattle.pair_top.specs.declared.play.Visits.TheVariants.{Alone, Turns}
-use Rattle.pair_top.specs.Orders.{Order, play, load, Manner, alone, by_turns}
+use Rattle.pair_top.specs.Orders.{Order, play, load, connect, Manner, alone, by_turns}
 use Rattle.pair_top.specs.Pattern.{visits_of}
 
 -- the visits that a pattern orders
@@ -14,12 +14,14 @@ visits_in pattern = unwrap_or (visits_of pattern) []
 
 abbrev pub order_of : Command → Order
 order_of (commands.Load source) = load source.now
+order_of (commands.Connect events) = connect events.now
 order_of (commands.Solo source script) = play alone source.now script.now
 order_of (commands.Turns source script pattern) = play (by_turns (visits_in pattern.now)) source.now script.now
 
 -- its pattern is one
 abbrev pub IsReadable : Command → Type 0
 IsReadable (commands.Load source) = Unit {0}
+IsReadable (commands.Connect events) = Unit {0}
 IsReadable (commands.Solo source script) = Unit {0}
 IsReadable (commands.Turns source script pattern) = is_some (visits_of pattern.now) ≡ true
 

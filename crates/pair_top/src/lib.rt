@@ -3,7 +3,6 @@
 
 mod fault_text;
 mod faults;
-mod fields;
 mod gates;
 mod pattern;
 mod play;
@@ -11,6 +10,7 @@ mod reading;
 mod serve;
 mod words;
 
+pub use fault_text::{exit_status, fault_line, report};
 pub use faults::{Fault, Outcome};
 pub use gates::{Gate, NoGate};
 pub use reading::LIMIT;

@@ -1,10 +1,10 @@
 //! The pattern of a play by turns.
 ghost use Rattle.std.specs.Prelude.{◌≡◌, ◌≤◌, ◌<◌, ◌∷◌, length, is_some, true, IfSome};
 ghost use Rattle.std.specs.Option.{option_map};
-ghost use Rattle.pair_top.specs.Pattern.{side_of, sides_of, times_of, part_of, pieces, visits_of};
+ghost use Rattle.pair_top.specs.Pattern.{most_letters, most_times, side_of, sides_of, times_of, part_of, pieces, visits_of};
 ghost use Rattle.pair_top.specs.PatternView.{part_view, pieces_left};
 
-use crate::fields::split_at_byte;
+use plant_script::split_at_byte;
 use s7_base::Side;
 
 /// How often the letters of a part are played at most.
@@ -52,7 +52,7 @@ fn are_letters(word: &[u8]) -> bool
 /// The number that decimal digits write, 1 to 1,000,000.
 fn times_from(digits: &[u8]) -> Option<u32>
     ensures times { result ≡ times_of digits.now }
-    ensures few { IfSome result (λ times. times ≤ MOST_TIMES) }
+    ensures few { IfSome result (λ times. times ≤ most_times) }
 {
     let mut times = 0;
     for digit in digits {
@@ -70,7 +70,7 @@ fn times_from(digits: &[u8]) -> Option<u32>
 /// The part that a piece of a pattern spells.
 pub fn part_from(piece: &[u8]) -> Option<PatternPart<'_>>
     ensures part { option_map part_view result ≡ part_of piece.now }
-    ensures few { IfSome result (λ part. (part.times ≤ MOST_TIMES) × (length part.letters.now ≤ MOST_LETTERS)) }
+    ensures few { IfSome result (λ part. (part.times ≤ most_times) × (length part.letters.now ≤ most_letters)) }
     ensures letters { IfSome result (λ part. is_some (sides_of part.letters.now) ≡ true) }
 {
     let (times, letters) = match split_at_byte(piece, b'*') {

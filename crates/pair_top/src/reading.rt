@@ -1,12 +1,15 @@
 //! Reads the files of a command.
-ghost use Rattle.std.specs.Prelude.{◌≡◌, ℕ, List, IfOk, IfErr, OnOk};
+ghost use Rattle.plant_script.specs.Plan.{first_alarm_or_job};
+ghost use Rattle.std.specs.Prelude.{◌≡◌, ℕ, List, None, IfOk, IfErr, OnOk};
 ghost use Rattle.s7_base.specs.Blocks.{IsPlayable};
-ghost use Rattle.pair_top.specs.Reading.{file_of, WasRead, IsLoaded, IsAccepted, IsPlanned, IsReadRefusal, IsLoadRefusal, IsSourceRefusal, IsScriptRefusal, CountsOnly};
+ghost use Rattle.pair_top.specs.Reading.{file_in, WasRead, IsLoaded, IsAccepted, IsPlanned, IsReadRefusal, IsLoadRefusal, IsSourceRefusal, IsScriptRefusal, CountsOnly};
+ghost use Rattle.pair_top.specs.Connecting.{IsConnected, IsConnectRefusal};
 
 use crate::Fault;
 use block_loader::{LoadError, load};
+use ft_connection::{ConnError, play};
 use pair_io::{Files, FilesError};
-use plant_script::{Script, ScriptError, read_script};
+use plant_script::{Script, ScriptError, ScriptFault, read_script};
 use s7_base::Blocks;
 use std::alloc::Global;
 use stl_lex::LoadFault;
@@ -25,10 +28,11 @@ fn read_file<F: Files>(
     which: u8,
 ) -> Result<Vec<u8>, Fault>
     ensures read { IfOk result (λ bytes. WasRead (F.content files.old name.now) bytes.items) }
-    ensures refused { IfErr result (IsReadRefusal which (file_of (F.content files.old) (F.faults files.old) (F.faults files.new) name.now)) }
+    ensures refused { IfErr result (IsReadRefusal which (file_in F.content F.faults F.never_fails files.old files.new name.now)) }
     ensures stays { (other : List ℕ) → F.content files.new other ≡ F.content files.old other }
+    ensures promises { (other : List ℕ) → F.never_fails files.old other → F.never_fails files.new other }
     ensures counts { OnOk result ((other : List ℕ) → F.faults files.new other ≡ F.faults files.old other) }
-    ensures steady { IfErr result (λ fault. (other : List ℕ) → CountsOnly fault (file_of (F.content files.old) (F.faults files.old) (F.faults files.new) other)) }
+    ensures steady { IfErr result (λ fault. (other : List ℕ) → CountsOnly fault (file_in F.content F.faults F.never_fails files.old files.new other)) }
 {
     let mut bytes = Vec::new(alloc);
     match files.read(name, LIMIT, &mut bytes) {
@@ -42,10 +46,11 @@ fn read_file<F: Files>(
 /// The blocks of the source of this name.
 pub fn load_source<F: Files>(alloc: Global, files: &mut F, name: &[u8]) -> Result<Blocks, Fault>
     ensures loaded { IfOk result (IsLoaded (F.content files.old name.now)) }
-    ensures refused { IfErr result (IsLoadRefusal (file_of (F.content files.old) (F.faults files.old) (F.faults files.new) name.now)) }
+    ensures refused { IfErr result (IsLoadRefusal (file_in F.content F.faults F.never_fails files.old files.new name.now)) }
     ensures stays { (other : List ℕ) → F.content files.new other ≡ F.content files.old other }
+    ensures promises { (other : List ℕ) → F.never_fails files.old other → F.never_fails files.new other }
     ensures counts { OnOk result ((other : List ℕ) → F.faults files.new other ≡ F.faults files.old other) }
-    ensures steady { IfErr result (λ fault. (other : List ℕ) → CountsOnly fault (file_of (F.content files.old) (F.faults files.old) (F.faults files.new) other)) }
+    ensures steady { IfErr result (λ fault. (other : List ℕ) → CountsOnly fault (file_in F.content F.faults F.never_fails files.old files.new other)) }
 {
     let bytes = read_file(alloc, files, name, 0)?;
     match load(alloc, &bytes) {
@@ -59,10 +64,11 @@ pub fn load_source<F: Files>(alloc: Global, files: &mut F, name: &[u8]) -> Resul
 pub fn read_blocks<F: Files>(alloc: Global, files: &mut F, name: &[u8]) -> Result<Blocks, Fault>
     ensures read { IfOk result (IsAccepted (F.content files.old name.now)) }
     ensures playable { IfOk result IsPlayable }
-    ensures refused { IfErr result (IsSourceRefusal (file_of (F.content files.old) (F.faults files.old) (F.faults files.new) name.now)) }
+    ensures refused { IfErr result (IsSourceRefusal (file_in F.content F.faults F.never_fails files.old files.new name.now)) }
     ensures stays { (other : List ℕ) → F.content files.new other ≡ F.content files.old other }
+    ensures promises { (other : List ℕ) → F.never_fails files.old other → F.never_fails files.new other }
     ensures counts { OnOk result ((other : List ℕ) → F.faults files.new other ≡ F.faults files.old other) }
-    ensures steady { IfErr result (λ fault. (other : List ℕ) → CountsOnly fault (file_of (F.content files.old) (F.faults files.old) (F.faults files.new) other)) }
+    ensures steady { IfErr result (λ fault. (other : List ℕ) → CountsOnly fault (file_in F.content F.faults F.never_fails files.old files.new other)) }
 {
     let blocks = load_source(alloc, files, name)?;
     if !blocks.is_playable() {
@@ -74,18 +80,46 @@ pub fn read_blocks<F: Files>(alloc: Global, files: &mut F, name: &[u8]) -> Resul
     Ok(blocks)
 }
 
-/// The plant script of this name.
+/// The plant script of this name, which has no alarm and no job.
 pub fn read_plant<F: Files>(alloc: Global, files: &mut F, name: &[u8]) -> Result<Script, Fault>
     ensures read { IfOk result (IsPlanned (F.content files.old name.now)) }
-    ensures refused { IfErr result (IsScriptRefusal (file_of (F.content files.old) (F.faults files.old) (F.faults files.new) name.now)) }
+    ensures plain { IfOk result (λ script. first_alarm_or_job script ≡ None) }
+    ensures refused { IfErr result (IsScriptRefusal (file_in F.content F.faults F.never_fails files.old files.new name.now)) }
     ensures stays { (other : List ℕ) → F.content files.new other ≡ F.content files.old other }
+    ensures promises { (other : List ℕ) → F.never_fails files.old other → F.never_fails files.new other }
     ensures counts { OnOk result ((other : List ℕ) → F.faults files.new other ≡ F.faults files.old other) }
-    ensures steady { IfErr result (λ fault. (other : List ℕ) → CountsOnly fault (file_of (F.content files.old) (F.faults files.old) (F.faults files.new) other)) }
+    ensures steady { IfErr result (λ fault. (other : List ℕ) → CountsOnly fault (file_in F.content F.faults F.never_fails files.old files.new other)) }
 {
     let bytes = read_file(alloc, files, name, 1)?;
-    match read_script(alloc, &bytes) {
-        Ok(script) => Ok(script),
-        Err(ScriptError::Fault(fault)) => Err(Fault::ScriptFault(fault)),
-        Err(ScriptError::NoMemory) => Err(Fault::NoMemory),
+    let script = match read_script(alloc, &bytes) {
+        Ok(script) => script,
+        Err(ScriptError::Fault(fault)) => return Err(Fault::ScriptFault(fault)),
+        Err(ScriptError::NoMemory) => return Err(Fault::NoMemory),
+    };
+    if let Some(line) = script.first_alarm_or_job() {
+        let kind = NOT_BUILT;
+        return Err(Fault::ScriptFault(ScriptFault { kind, line }));
+    }
+    Ok(script)
+}
+
+/// What playing the events of the file of this name gives.
+pub fn play_connection<F: Files>(
+    alloc: Global,
+    files: &mut F,
+    name: &[u8],
+) -> Result<ft_connection::Played, Fault>
+    ensures played { IfOk result (IsConnected (F.content files.old name.now)) }
+    ensures refused { IfErr result (IsConnectRefusal (file_in F.content F.faults F.never_fails files.old files.new name.now)) }
+    ensures stays { (other : List ℕ) → F.content files.new other ≡ F.content files.old other }
+    ensures promises { (other : List ℕ) → F.never_fails files.old other → F.never_fails files.new other }
+    ensures counts { OnOk result ((other : List ℕ) → F.faults files.new other ≡ F.faults files.old other) }
+    ensures steady { IfErr result (λ fault. (other : List ℕ) → CountsOnly fault (file_in F.content F.faults F.never_fails files.old files.new other)) }
+{
+    let bytes = read_file(alloc, files, name, 1)?;
+    match play(alloc, &bytes) {
+        Ok(played) => Ok(played),
+        Err(ConnError::Fault { kind, line }) => Err(Fault::ScriptFault(ScriptFault { kind, line })),
+        Err(ConnError::NoMemory) => Err(Fault::NoMemory),
     }
 }

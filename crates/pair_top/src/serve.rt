@@ -1,6 +1,7 @@
 //! The top call.
-ghost use Rattle.std.specs.Prelude.{◌≡◌, ◌≤◌, ◌↔◌, ℕ, List, true, Some, IsNone, IfOk, IfErr, OnOk};
+ghost use Rattle.std.specs.Prelude.{◌≡◌, ◌≤◌, ◌↔◌, ℕ, List, true, None, Some, None, IsNone, IfOk, IfErr, OnOk, OnErr};
 ghost use Rattle.s7_base.specs.Blocks.{IsPlayable};
+ghost use Rattle.plant_script.specs.Plan.{first_alarm_or_job};
 ghost use Rattle.subsystem.specs.Part.{IsNew, IsOpen};
 ghost use Rattle.pair_core.specs.declared.endings.Mode.{Mode};
 ghost use Rattle.pair_core.specs.World.{first_world, play};
@@ -8,19 +9,22 @@ ghost use Rattle.pair_core.specs.Progress.{IsAlone};
 ghost use Rattle.pair_core.specs.CpuTail.{tail_of};
 ghost use Rattle.pair_core.specs.Text.{HasTail, text};
 ghost use Rattle.trace_printer.specs.LoadText.{load_text};
-ghost use Rattle.pair_top.specs.Reading.{file_of, IsAccepted, IsPlanned};
+ghost use Rattle.pair_top.specs.Reading.{file_in, IsAccepted, IsPlanned};
 ghost use Rattle.pair_top.specs.Orders.{is_alone, visits_for};
 ghost use Rattle.pair_top.specs.Playing.{AreAt, of_side};
-ghost use Rattle.pair_top.specs.Serving.{IsRefusal, AreSteady, IsFinished, ComesToTail, IsWriting, IsOutcome, PlayServed, IsUnplayed, setup_of, account_of, written_in, GivesWhatIsDue};
+ghost use Rattle.pair_top.specs.Serving.{AreNew, AreUnused, IsRefusal, AreSteady, IsFinished, ComesToTail, IsWriting, IsOutcome, PlayServed, IsUnplayed, setup_of, account_of, sink_in, GivesWhatIsDue};
 ghost use Rattle.pair_top.specs.Loading.{LoadServed, IsSteadyUnless, LoadsWhatIsDue, Served, DueServed};
+ghost use Rattle.pair_top.specs.Connecting.{ConnectServed, ConnectsWhatIsDue};
 ghost use Rattle.pair_top.specs.Statuses.{status_of};
 ghost use Rattle.pair_top.specs.Words.{command_of, words_of};
 ghost use Rattle.pair_top.specs.WordsView.{order_of, manner_in, IsReadable, ArePatterns};
 
+use crate::fault_text::exit_status;
 use crate::play::{Played, Visits, finish, play_visits};
-use crate::reading::{load_source, read_blocks, read_plant};
+use crate::reading::{load_source, play_connection, read_blocks, read_plant};
 use crate::words::{Command, command_from};
 use crate::{Fault, Gate, Outcome};
+use ft_connection::ConnText;
 use pair_core::{Mode, Pair, begins};
 use pair_io::{Files, Sink};
 use plant_script::Script;
@@ -32,6 +36,7 @@ use subsystem::Subsystem;
 use trace_printer::{print, print_load};
 
 /// Both files of a play.
+#[tactic(auto, using(crate::proofs::Later::script_refused))]
 fn read_both<F: Files>(
     alloc: Global,
     source: &[u8],
@@ -40,14 +45,15 @@ fn read_both<F: Files>(
 ) -> Result<(Blocks, Script), Fault>
     ensures source { IfOk result (λ both. IsAccepted (F.content files.old source.now) both.0) }
     ensures playable { IfOk result (λ both. IsPlayable both.0) }
+    ensures plain { IfOk result (λ both. first_alarm_or_job both.1 ≡ None) }
     ensures script { IfOk result (λ both. IsPlanned (F.content files.old script.now) both.1) }
     ensures refused { IfErr result (IsRefusal
-        (file_of (F.content files.old) (F.faults files.old) (F.faults files.new) source.now)
-        (file_of (F.content files.old) (F.faults files.old) (F.faults files.new) script.now)) }
+        (file_in F.content F.faults F.never_fails files.old files.new source.now)
+        (file_in F.content F.faults F.never_fails files.old files.new script.now)) }
     ensures counts { OnOk result ((other : List ℕ) → F.faults files.new other ≡ F.faults files.old other) }
     ensures steady { IfErr result (λ fault. AreSteady (Some fault)
-        (file_of (F.content files.old) (F.faults files.old) (F.faults files.new) source.now)
-        (file_of (F.content files.old) (F.faults files.old) (F.faults files.new) script.now)) }
+        (file_in F.content F.faults F.never_fails files.old files.new source.now)
+        (file_in F.content F.faults F.never_fails files.old files.new script.now)) }
 {
     let blocks = read_blocks(alloc, files, source)?;
     let plant = read_plant(alloc, files, script)?;
@@ -66,10 +72,12 @@ fn open(
     requires a { IsNew a.old }
     requires b { IsNew b.old }
     requires playable { IsPlayable blocks.now }
+    requires plain { first_alarm_or_job script ≡ None }
     ensures setup { IfOk result (λ pair. pair.setup ≡ setup_of blocks.now script solo) }
     ensures world { IfOk result (λ pair. pair.world ≡ first_world solo) }
     ensures alone { solo ≡ true → IfOk result (λ pair. IsAlone pair.setup pair.world 0) }
     ensures at { IfOk result (λ pair. AreAt pair a.new b.new) }
+    ensures err { OnErr result (AreUnused a.new b.new) }
 {
     let pair = Pair::new(alloc, blocks, script, solo)?;
     begins();
@@ -108,7 +116,7 @@ fn write_text<K: Sink>(sink: &mut K, mode: Mode, played: Played, last: &Subsyste
     ensures status { result.status ≡ status_of result.fault }
     ensures account { account_of result.entries.entries result.shown.list result.ended ≡ account_of played.entries.entries played.shown.list played.ended }
     ensures written { IsWriting (text mode played.entries.entries played.shown.list played.ended (tail_of last.now.machine))
-        (written_in (K.written sink.old) (K.written sink.new) (K.faults sink.old) (K.faults sink.new)) result.fault }
+        (sink_in K.written K.faults K.takes sink.old sink.new) result.fault }
 {
     let Played {
         entries,
@@ -121,7 +129,7 @@ fn write_text<K: Sink>(sink: &mut K, mode: Mode, played: Played, last: &Subsyste
         Err(_) => Some(Fault::SinkFault),
     };
     Outcome {
-        status: fault.map_or(0, Fault::status),
+        status: exit_status(fault),
         fault,
         entries,
         shown,
@@ -142,10 +150,11 @@ fn play_and_write<K: Sink>(
     requires a { IsNew a.old }
     requires b { IsNew b.old }
     requires playable { IsPlayable blocks.now }
+    requires plain { first_alarm_or_job script ≡ None }
     requires patterns { ArePatterns visits }
     ensures status { result.status ≡ status_of result.fault }
     ensures played { IsOutcome (manner_in visits.entry) blocks.now script
-        (written_in (K.written sink.old) (K.written sink.new) (K.faults sink.old) (K.faults sink.new))
+        (sink_in K.written K.faults K.takes sink.old sink.new)
         (account_of result.entries.entries result.shown.list result.ended) a.new b.new result.fault }
 {
     let end = script.end();
@@ -176,18 +185,18 @@ fn serve_play<F: Files, K: Sink>(
     requires patterns { ArePatterns visits }
     ensures status { result.status ≡ status_of result.fault }
     ensures served { PlayServed (manner_in visits.entry)
-        (file_of (F.content files.old) (F.faults files.old) (F.faults files.new) source.now)
-        (file_of (F.content files.old) (F.faults files.old) (F.faults files.new) script.now)
-        (written_in (K.written sink.old) (K.written sink.new) (K.faults sink.old) (K.faults sink.new))
+        (file_in F.content F.faults F.never_fails files.old files.new source.now)
+        (file_in F.content F.faults F.never_fails files.old files.new script.now)
+        (sink_in K.written K.faults K.takes sink.old sink.new)
         (account_of result.entries.entries result.shown.list result.ended) a.new b.new result.fault }
     ensures steady { AreSteady result.fault
-        (file_of (F.content files.old) (F.faults files.old) (F.faults files.new) source.now)
-        (file_of (F.content files.old) (F.faults files.old) (F.faults files.new) script.now) }
+        (file_in F.content F.faults F.never_fails files.old files.new source.now)
+        (file_in F.content F.faults F.never_fails files.old files.new script.now) }
     ensures words { result.fault ≡ Some Fault.Usage → ⊥ }
     ensures due { GivesWhatIsDue
-        (file_of (F.content files.old) (F.faults files.old) (F.faults files.new) source.now)
-        (file_of (F.content files.old) (F.faults files.old) (F.faults files.new) script.now)
-        (written_in (K.written sink.old) (K.written sink.new) (K.faults sink.old) (K.faults sink.new)) result.fault }
+        (file_in F.content F.faults F.never_fails files.old files.new source.now)
+        (file_in F.content F.faults F.never_fails files.old files.new script.now)
+        (sink_in K.written K.faults K.takes sink.old sink.new) result.fault }
 {
     let (blocks, plant) = match read_both(alloc, source, script, files) {
         Ok(both) => both,
@@ -201,7 +210,7 @@ fn write_blocks<K: Sink>(alloc: Global, sink: &mut K, blocks: &Blocks) -> Outcom
     ensures status { result.status ≡ status_of result.fault }
     ensures unplayed { IsUnplayed (account_of result.entries.entries result.shown.list result.ended) }
     ensures written { IsWriting (load_text blocks.now)
-        (written_in (K.written sink.old) (K.written sink.new) (K.faults sink.old) (K.faults sink.new)) result.fault }
+        (sink_in K.written K.faults K.takes sink.old sink.new) result.fault }
 {
     match print_load(sink, blocks) {
         Ok(()) => Outcome::quiet(alloc),
@@ -218,18 +227,56 @@ fn serve_load<F: Files, K: Sink>(
 ) -> Outcome
     ensures status { result.status ≡ status_of result.fault }
     ensures served { LoadServed
-        (file_of (F.content files.old) (F.faults files.old) (F.faults files.new) source.now)
-        (written_in (K.written sink.old) (K.written sink.new) (K.faults sink.old) (K.faults sink.new))
+        (file_in F.content F.faults F.never_fails files.old files.new source.now)
+        (sink_in K.written K.faults K.takes sink.old sink.new)
         (account_of result.entries.entries result.shown.list result.ended) result.fault }
     ensures steady { IsSteadyUnless result.fault
-        (file_of (F.content files.old) (F.faults files.old) (F.faults files.new) source.now) }
+        (file_in F.content F.faults F.never_fails files.old files.new source.now) }
     ensures words { result.fault ≡ Some Fault.Usage → ⊥ }
     ensures due { LoadsWhatIsDue
-        (file_of (F.content files.old) (F.faults files.old) (F.faults files.new) source.now)
-        (written_in (K.written sink.old) (K.written sink.new) (K.faults sink.old) (K.faults sink.new)) result.fault }
+        (file_in F.content F.faults F.never_fails files.old files.new source.now)
+        (sink_in K.written K.faults K.takes sink.old sink.new) result.fault }
 {
     match load_source(alloc, files, source) {
         Ok(blocks) => write_blocks(alloc, sink, &blocks),
+        Err(fault) => Outcome::refused(alloc, fault),
+    }
+}
+
+/// Writes the text of a connection.
+fn write_connection<K: Sink>(alloc: Global, sink: &mut K, text: &ConnText) -> Outcome
+    ensures status { result.status ≡ status_of result.fault }
+    ensures unplayed { IsUnplayed (account_of result.entries.entries result.shown.list result.ended) }
+    ensures written { IsWriting text.now
+        (sink_in K.written K.faults K.takes sink.old sink.new) result.fault }
+{
+    match sink.write(text.as_slice()) {
+        Ok(()) => Outcome::quiet(alloc),
+        Err(_) => Outcome::refused(alloc, Fault::SinkFault),
+    }
+}
+
+/// The command that plays the events of the file of this name.
+fn serve_connect<F: Files, K: Sink>(
+    alloc: Global,
+    events: &[u8],
+    files: &mut F,
+    sink: &mut K,
+) -> Outcome
+    ensures status { result.status ≡ status_of result.fault }
+    ensures served { ConnectServed
+        (file_in F.content F.faults F.never_fails files.old files.new events.now)
+        (sink_in K.written K.faults K.takes sink.old sink.new)
+        (account_of result.entries.entries result.shown.list result.ended) result.fault }
+    ensures steady { IsSteadyUnless result.fault
+        (file_in F.content F.faults F.never_fails files.old files.new events.now) }
+    ensures words { result.fault ≡ Some Fault.Usage → ⊥ }
+    ensures due { ConnectsWhatIsDue
+        (file_in F.content F.faults F.never_fails files.old files.new events.now)
+        (sink_in K.written K.faults K.takes sink.old sink.new) result.fault }
+{
+    match play_connection(alloc, files, events) {
+        Ok(played) => write_connection(alloc, sink, &played.text),
         Err(fault) => Outcome::refused(alloc, fault),
     }
 }
@@ -248,16 +295,17 @@ fn serve_command<F: Files, K: Sink>(
     requires readable { IsReadable command }
     ensures status { result.status ≡ status_of result.fault }
     ensures served { Served (Some (order_of command.entry))
-        (file_of (F.content files.old) (F.faults files.old) (F.faults files.new))
-        (written_in (K.written sink.old) (K.written sink.new) (K.faults sink.old) (K.faults sink.new))
+        (file_in F.content F.faults F.never_fails files.old files.new)
+        (sink_in K.written K.faults K.takes sink.old sink.new)
         (account_of result.entries.entries result.shown.list result.ended) a.new b.new result.fault }
     ensures words { result.fault ≡ Some Fault.Usage → ⊥ }
     ensures due { DueServed (Some (order_of command.entry))
-        (file_of (F.content files.old) (F.faults files.old) (F.faults files.new))
-        (written_in (K.written sink.old) (K.written sink.new) (K.faults sink.old) (K.faults sink.new)) result.fault }
+        (file_in F.content F.faults F.never_fails files.old files.new)
+        (sink_in K.written K.faults K.takes sink.old sink.new) result.fault }
 {
     match command {
         Command::Load { source } => serve_load(alloc, source, files, sink),
+        Command::Connect { events } => serve_connect(alloc, events, files, sink),
         Command::Solo { source, script } => {
             serve_play(alloc, source, script, Visits::Alone, files, sink, a, b)
         }
@@ -278,8 +326,9 @@ fn serve_command<F: Files, K: Sink>(
     }
 }
 
-/// Does what the words say, on the caller's thread: `load SOURCE` tells the blocks of a source, `solo SOURCE SCRIPT`
-/// plays side A alone, and `turns SOURCE SCRIPT PATTERN` plays both sides by the letters of the pattern.
+/// Does what the words say, on the caller's thread: `load SOURCE` tells the blocks of a source, `connect EVENTS` plays the events
+/// of a connection, `solo SOURCE SCRIPT` plays side A alone, and `turns SOURCE SCRIPT PATTERN` plays both sides by the letters of
+/// the pattern.
 ///
 /// `a` and `b` are as `Subsystem::new` made them. Waits for nobody, and always returns.
 pub fn serve_alone<F: Files, K: Sink>(
@@ -294,10 +343,11 @@ pub fn serve_alone<F: Files, K: Sink>(
     requires b { IsNew b.old }
     ensures status { result.status ≡ status_of result.fault }
 
-    // What the command answers and leaves: the play and its text, the text of the blocks, or the cause of the refusal.
+    // What the command answers and leaves: the play and its text, the text of the blocks or of the connection, or the cause of the
+    // refusal.
     ensures served { Served (command_of (words_of words.now))
-        (file_of (F.content files.old) (F.faults files.old) (F.faults files.new))
-        (written_in (K.written sink.old) (K.written sink.new) (K.faults sink.old) (K.faults sink.new))
+        (file_in F.content F.faults F.never_fails files.old files.new)
+        (sink_in K.written K.faults K.takes sink.old sink.new)
         (account_of result.entries.entries result.shown.list result.ended) a.new b.new result.fault }
 
     // The words are refused exactly where they are no command.
@@ -305,8 +355,8 @@ pub fn serve_alone<F: Files, K: Sink>(
 
     // Each refusal that is due comes; where none is, the command is done to its end.
     ensures due { DueServed (command_of (words_of words.now))
-        (file_of (F.content files.old) (F.faults files.old) (F.faults files.new))
-        (written_in (K.written sink.old) (K.written sink.new) (K.faults sink.old) (K.faults sink.new)) result.fault }
+        (file_in F.content F.faults F.never_fails files.old files.new)
+        (sink_in K.written K.faults K.takes sink.old sink.new) result.fault }
 {
     match command_from(words) {
         None => Outcome::refused(alloc, Fault::Usage),
@@ -331,10 +381,11 @@ pub fn s7h_top<R: Threads + Wait + Sync, F: Files, K: Sink, G: Gate + Sync>(
     requires b { IsNew b.old }
     ensures status { result.status ≡ status_of result.fault }
 
-    // What the command answers and leaves: the play and its text, the text of the blocks, or the cause of the refusal.
+    // What the command answers and leaves: the play and its text, the text of the blocks or of the connection, or the cause of the
+    // refusal.
     ensures served { Served (command_of (words_of words.now))
-        (file_of (F.content files.old) (F.faults files.old) (F.faults files.new))
-        (written_in (K.written sink.old) (K.written sink.new) (K.faults sink.old) (K.faults sink.new))
+        (file_in F.content F.faults F.never_fails files.old files.new)
+        (sink_in K.written K.faults K.takes sink.old sink.new)
         (account_of result.entries.entries result.shown.list result.ended) a.new b.new result.fault }
 
     // The words are refused exactly where they are no command.
@@ -342,8 +393,8 @@ pub fn s7h_top<R: Threads + Wait + Sync, F: Files, K: Sink, G: Gate + Sync>(
 
     // Each refusal that is due comes; where none is, the command is done to its end.
     ensures due { DueServed (command_of (words_of words.now))
-        (file_of (F.content files.old) (F.faults files.old) (F.faults files.new))
-        (written_in (K.written sink.old) (K.written sink.new) (K.faults sink.old) (K.faults sink.new)) result.fault }
+        (file_in F.content F.faults F.never_fails files.old files.new)
+        (sink_in K.written K.faults K.takes sink.old sink.new) result.fault }
 {
     serve_alone(alloc, words, files, sink, a, b)
 }

@@ -402,9 +402,11 @@ fn each_refusal_has_its_cause(rt: HostRuntime) -> Result<(), Fail> {
     let unplayed = Fault::SourceFault(LoadFault { kind: 99, line: 0 });
     let no_main = Fault::SourceFault(LoadFault { kind: 18, line: 0 });
     let misplaced = Fault::SourceFault(LoadFault { kind: 11, line: 2 });
-    let script_fault = Fault::ScriptFault(ScriptFault { kind: 99, line: 0 });
+    let no_end = Fault::ScriptFault(ScriptFault { kind: 6, line: 2 });
+    let second_end = Fault::ScriptFault(ScriptFault { kind: 1, line: 2 });
+    let job = Fault::ScriptFault(ScriptFault { kind: 99, line: 1 });
     let missing = Fault::FileFault { which: 0 };
-    let cases: [(&[&[u8]], &[u8], &[u8], Option<u64>, Fault, u8); 21] = [
+    let cases: [(&[&[u8]], &[u8], &[u8], Option<u64>, Fault, u8); 22] = [
         (&[], SOURCE, SCRIPT, None, Fault::Usage, 2),
         (&[b"solo", b"s"], SOURCE, SCRIPT, None, Fault::Usage, 2),
         (
@@ -459,8 +461,9 @@ fn each_refusal_has_its_cause(rt: HostRuntime) -> Result<(), Fail> {
         (load, &long, SCRIPT, None, Fault::TooLong { which: 0 }, 4),
         (load, b"", SCRIPT, None, no_main, 5),
         (load, b"\nBEGIN\n", b"", None, misplaced, 5),
-        (solo, SOURCE, &whole, None, script_fault, 6),
-        (solo, SOURCE, b"END 12", None, script_fault, 6),
+        (solo, SOURCE, &whole, None, no_end, 6),
+        (solo, SOURCE, b"END 9\nEND 9", None, second_end, 6),
+        (solo, SOURCE, b"AT 8 JOB READ MB 0\nEND 9\n", None, job, 6),
     ];
     for (words, source, script, failing, fault, status) in cases {
         let mut files = files_of(alloc, source, script, failing)?;

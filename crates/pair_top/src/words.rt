@@ -13,6 +13,10 @@ pub enum Command<'a> {
     Load {
         source: &'a [u8],
     },
+    /// To play the events of a connection.
+    Connect {
+        events: &'a [u8],
+    },
     /// To play side A alone.
     Solo {
         source: &'a [u8],
@@ -34,6 +38,9 @@ pub fn command_from(words: &[Vec<u8>]) -> Option<Command<'_>>
     match words {
         [word, source] if word.as_slice() == b"load".as_slice() => Some(Command::Load {
             source: source.as_slice(),
+        }),
+        [word, events] if word.as_slice() == b"connect".as_slice() => Some(Command::Connect {
+            events: events.as_slice(),
         }),
         [word, source, script] if word.as_slice() == b"solo".as_slice() => Some(Command::Solo {
             source: source.as_slice(),

@@ -1,7 +1,7 @@
 -- A running image is the image of the plan.
-use Rattle.std.proofs.Common.{◌≡◌, ◌≢◌, inl, inr, ℕ, zero, suc, ◌+◌, ◌<◌, ◌≤◌, Bool, true, false, cond, eqb, eq-eqb, List, [], ◌∷◌, ◌++◌, length, take, drop, get_or, set, replicate, Some, None, refl, sym, ◌∙◌, ap, subst, arith, append_assoc}
-use Rattle.std.specs.Prelude.{nat_le, All}
-use Rattle.std.specs.List.{fold, list_any}
+use Rattle.std.proofs.Common.{◌≡◌, ◌≢◌, inl, inr, ℕ, zero, suc, ◌+◌, ◌<◌, ◌≤◌, Bool, true, false, cond, eqb, eq-eqb, List, [], ◌∷◌, ◌++◌, length, take, drop, get_or, set, replicate, Option, Some, None, refl, sym, ◌∙◌, ap, subst, arith, append_assoc}
+use Rattle.std.specs.Prelude.{nat_le, All, ◌||◌}
+use Rattle.std.specs.List.{fold, list_any, find}
 use Rattle.std.proofs.lemmas.Bool.{cases_eq, leb-true, leb-false, le-leb, lt-leb, lt-ltb, ne_eqb}
 use Rattle.std.proofs.lemmas.List.{append-nil, length-append, length-set, get_or-set_same, get_or-set_other, get_or-replicate, take-append-drop, length-take-le}
 use Rattle.std.proofs.Math.Seq.{take-append_seam}
@@ -13,8 +13,8 @@ use Rattle.plant_script.specs.declared.plan.Module.{Module}
 use Rattle.plant_script.specs.declared.plan.Event.{Event}
 use Rattle.plant_script.specs.declared.plan.What.{What}
 use Rattle.plant_script.specs.declared.plan.What.TheVariants.{Input, Alarm, Job, Fail, Return, Suspect}
-use Rattle.plant_script.specs.Plan.{Plan, AreModules, input_width, IsPlanned, IsPlan}
-use Rattle.plant_script.specs.InputImage.{value_after, value_by, has_input, image_byte, input_image, Image, front, IsImageOf, bytes_after, run}
+use Rattle.plant_script.specs.Plan.{Plan, has_input, HasFitting, HasModule, IsPlan}
+use Rattle.plant_script.specs.InputImage.{value_after, value_by, image_byte, input_image, Image, front, IsImageOf, bytes_after, run}
 use Rattle.plant_script.proofs.Rising.{Rising, all_rising}
 
 -- the plan with these events in place of its own
@@ -67,44 +67,56 @@ value_of_both (e ∷ es) at_byte m n before le passed =
     let second : nat_le e.moment n ≡ true = le-leb e.moment n (omega arith) in
     rw (first, second) (value_of_both es at_byte m n (value_after at_byte before e.what) le (All-tail (λ e. e.moment ≤ m) e es passed))
 
--- a byte below the width is one of the module's
-module_has : (modules : List Module) (at_byte : ℕ) → AreModules modules → at_byte < input_width modules → list_any (has_input at_byte) modules ≡ true
-module_has [] at_byte are below = absurd (omega arith)
-module_has (m ∷ []) at_byte are below =
-    let zero_first : m.at_byte ≡ 0 = are.at_byte in
-    let low : nat_le m.at_byte at_byte ≡ true = le-leb m.at_byte at_byte (omega arith) in
-    let high = lt-ltb at_byte (m.at_byte + m.len) (omega arith) in
-    rw (are.input, low, high) refl
-module_has (m ∷ n ∷ ms) at_byte are below = absurd are
+-- an input of a byte that a module has
+abbrev pub IsHeld : List Module → What → Type 0
+IsHeld modules (Input place side value) = list_any (has_input place) modules ≡ true
+IsHeld modules (Alarm ob info) = Unit {0}
+IsHeld modules (Job job) = Unit {0}
+IsHeld modules (Fail side late) = Unit {0}
+IsHeld modules (Return side fresh) = Unit {0}
+IsHeld modules (Suspect side pass) = Unit {0}
 
--- a module has at most 64 bytes
-width_is_small : (modules : List Module) → AreModules modules → input_width modules ≤ 64
-width_is_small [] are = omega arith
-width_is_small (m ∷ []) are = are.few
-width_is_small (m ∷ n ∷ ms) are = absurd are
+found_any : (p : Module → Bool) (modules : List Module) (m : Module) → find p modules ≡ Some m → list_any p modules ≡ true
+found_any p [] m e = absurd cc
+found_any p (x ∷ xs) m e = by_test (λ later. found_any p xs m later) (p x) e
+  where
+    by_test : (find p xs ≡ Some m → list_any p xs ≡ true) → (t : Bool) → cond t (Some x) (find p xs) ≡ Some m → (t || list_any p xs) ≡ true
+    by_test deeper true found = refl
+    by_test deeper false found = deeper found
+
+held_by : (p : Module → Bool) (modules : List Module) (side : Option Side) (o : Option Module) → find p modules ≡ o → HasFitting o side → list_any p modules ≡ true
+held_by p modules side None is fits = absurd fits
+held_by p modules side (Some m) is fits = found_any p modules m is
+
+is_held : (modules : List Module) (what : What) → HasModule modules what → IsHeld modules what
+is_held modules (Input place side value) has = held_by (has_input place) modules side (find (has_input place) modules) refl has
+is_held modules (Alarm ob info) has = tt
+is_held modules (Job job) has = tt
+is_held modules (Fail side late) has = tt
+is_held modules (Return side fresh) has = tt
+is_held modules (Suspect side pass) has = tt
 
 -- ---- one event
 
-abbrev input_of : ℕ → ℕ → ℕ → ℕ → Event
-input_of time number place value = record { moment = time; line = number; what = Input place None value }
+abbrev input_of : ℕ → ℕ → ℕ → Option Side → ℕ → Event
+input_of time number place side value = record { moment = time; line = number; what = Input place side value }
 
-module _ (plan : Plan) (moment : ℕ) (xs : List Event) (time number place value : ℕ) (bytes : List ℕ) (are : AreModules plan.modules)
-    (below : place < input_width plan.modules) (due : time ≤ moment) (is : bytes ≡ input_image (with_lines plan xs) moment) where
+module _ (plan : Plan) (moment : ℕ) (xs : List Event) (time number place : ℕ) (side : Option Side) (value : ℕ) (bytes : List ℕ)
+    (has : list_any (has_input place) plan.modules ≡ true) (due : time ≤ moment) (is : bytes ≡ input_image (with_lines plan xs) moment) where
   abbrev longer : List Event
-  longer = xs ++ input_of time number place value ∷ []
+  longer = xs ++ input_of time number place side value ∷ []
 
   wide : length bytes ≡ 64
   wide = ap length is ∙ image_length (with_lines plan xs) moment
 
   -- the byte that is set
-  at_place : get_or (set bytes place value) place 0 ≡ image_byte (with_lines plan longer) moment place
-  at_place =
-      let inside : place < length bytes = omega (arith, wide, width_is_small plan.modules are) in
-      let has : list_any (has_input place) plan.modules ≡ true = module_has plan.modules place are below in
+  at_place : place < 64 → get_or (set bytes place value) place 0 ≡ image_byte (with_lines plan longer) moment place
+  at_place lt =
+      let inside : place < length bytes = omega (arith, wide) in
       let on_time : nat_le time moment ≡ true = le-leb time moment due in
       let same : eqb place place ≡ true = eq-eqb place place refl in
-      let last : step place moment (value_by xs place moment) (input_of time number place value) ≡ value = rw (on_time, same) refl in
-      let found : value_by longer place moment ≡ value = value_more xs (input_of time number place value) place moment ∙ last in
+      let last : step place moment (value_by xs place moment) (input_of time number place side value) ≡ value = rw (on_time, same) refl in
+      let found : value_by longer place moment ≡ value = value_more xs (input_of time number place side value) place moment ∙ last in
       let shown : cond (list_any (has_input place) plan.modules) (value_by longer place moment) 0 ≡ value = rw (has, found) refl in
       get_or-set_same bytes place value 0 inside ∙ sym shown
 
@@ -113,45 +125,42 @@ module _ (plan : Plan) (moment : ℕ) (xs : List Event) (time number place value
   elsewhere k lt other =
       let on_time : nat_le time moment ≡ true = le-leb time moment due in
       let apart : eqb place k ≡ false = ne_eqb place k (λ e. other (sym e)) in
-      let last : step k moment (value_by xs k moment) (input_of time number place value) ≡ value_by xs k moment = rw (on_time, apart) refl in
-      let found : value_by longer k moment ≡ value_by xs k moment = value_more xs (input_of time number place value) k moment ∙ last in
+      let last : step k moment (value_by xs k moment) (input_of time number place side value) ≡ value_by xs k moment = rw (on_time, apart) refl in
+      let found : value_by longer k moment ≡ value_by xs k moment = value_more xs (input_of time number place side value) k moment ∙ last in
       get_or-set_other bytes place k value 0 other ∙ ap (λ (bs : List ℕ). get_or bs k 0) is ∙ image_at (with_lines plan xs) moment k lt
       ∙ ap (λ (v : ℕ). cond (list_any (has_input k) plan.modules) v 0) (sym found)
 
   each_byte : (k : ℕ) → k < 64 → get_or (set bytes place value) k 0 ≡ image_byte (with_lines plan longer) moment k
   each_byte k lt = elim (cases_eq k place) [
-    | inl same ↦ subst (λ (j : ℕ). get_or (set bytes place value) j 0 ≡ image_byte (with_lines plan longer) moment j) (sym same) at_place
+    | inl same ↦ subst (λ (j : ℕ). get_or (set bytes place value) j 0 ≡ image_byte (with_lines plan longer) moment j) (sym same) (at_place (subst (λ (j : ℕ). j < 64) same lt))
     | inr other ↦ elsewhere k lt other
   ]
 
   input_step : set bytes place value ≡ input_image (with_lines plan longer) moment
   input_step = by_bytes (with_lines plan longer) moment (set bytes place value) (length-set bytes place value ∙ wide) each_byte
 
--- a side that stops leaves the values
-nothing_set : (plan : Plan) (moment : ℕ) (xs : List Event) (time number : ℕ) (side : Side) (late : Bool) (bytes : List ℕ) → bytes ≡ input_image (with_lines plan xs) moment
-    → bytes ≡ input_image (with_lines plan (xs ++ record { moment = time; line = number; what = Fail side late } ∷ [])) moment
-nothing_set plan moment xs time number side late bytes is =
-    let e : Event = record { moment = time; line = number; what = Fail side late } in
+-- every other event leaves the values
+nothing_set : (plan : Plan) (moment : ℕ) (xs : List Event) (e : Event) (bytes : List ℕ) → ((k v : ℕ) → value_after k v e.what ≡ v) → bytes ≡ input_image (with_lines plan xs) moment
+    → bytes ≡ input_image (with_lines plan (xs ++ e ∷ [])) moment
+nothing_set plan moment xs e bytes leaves is =
     let each : (k : ℕ) → value_by xs k moment ≡ value_by (xs ++ e ∷ []) k moment =
-    λ k. sym (value_more xs e k moment ∙ both (nat_le time moment) (value_by xs k moment)) in
+    λ k. sym (value_more xs e k moment ∙ both (nat_le e.moment moment) (value_by xs k moment) (value_after k (value_by xs k moment) e.what) (leaves k (value_by xs k moment))) in
     is ∙ same_bytes (with_lines plan xs) (with_lines plan (xs ++ e ∷ [])) moment moment (λ k. ap (λ (v : ℕ). cond (list_any (has_input k) plan.modules) v 0) (each k))
   where
-    both : (b : Bool) (v : ℕ) → cond b v v ≡ v
-    both true v = refl
-    both false v = refl
+    both : (b : Bool) (v w : ℕ) → w ≡ v → cond b w v ≡ v
+    both true v w same = same
+    both false v w same = refl
 
 -- an event of a plan, applied to the image of those before it
 apply_step : (plan : Plan) (moment : ℕ) (xs : List Event) (time number : ℕ) (what : What) (bytes : List ℕ)
-    → AreModules plan.modules → IsPlanned (input_width plan.modules) what → time ≤ moment → bytes ≡ input_image (with_lines plan xs) moment
+    → IsHeld plan.modules what → time ≤ moment → bytes ≡ input_image (with_lines plan xs) moment
     → bytes_after bytes what ≡ input_image (with_lines plan (xs ++ record { moment = time; line = number; what = what } ∷ [])) moment
-apply_step plan moment xs time number (Input place None value) bytes are below due is =
-    input_step plan moment xs time number place value bytes are below due is
-apply_step plan moment xs time number (Input place (Some side) value) bytes are below due is = absurd below
-apply_step plan moment xs time number (Alarm ob info) bytes are below due is = absurd below
-apply_step plan moment xs time number (Job job) bytes are below due is = absurd below
-apply_step plan moment xs time number (Fail side late) bytes are below due is = nothing_set plan moment xs time number side late bytes is
-apply_step plan moment xs time number (Return side fresh) bytes are below due is = absurd below
-apply_step plan moment xs time number (Suspect side pass) bytes are below due is = absurd below
+apply_step plan moment xs time number (Input place side value) bytes held due is = input_step plan moment xs time number place side value bytes held due is
+apply_step plan moment xs time number (Alarm ob info) bytes held due is = nothing_set plan moment xs (record { moment = time; line = number; what = Alarm ob info }) bytes (λ k v. refl) is
+apply_step plan moment xs time number (Job job) bytes held due is = nothing_set plan moment xs (record { moment = time; line = number; what = Job job }) bytes (λ k v. refl) is
+apply_step plan moment xs time number (Fail side late) bytes held due is = nothing_set plan moment xs (record { moment = time; line = number; what = Fail side late }) bytes (λ k v. refl) is
+apply_step plan moment xs time number (Return side fresh) bytes held due is = nothing_set plan moment xs (record { moment = time; line = number; what = Return side fresh }) bytes (λ k v. refl) is
+apply_step plan moment xs time number (Suspect side pass) bytes held due is = nothing_set plan moment xs (record { moment = time; line = number; what = Suspect side pass }) bytes (λ k v. refl) is
 
 -- ---- a run
 
@@ -172,16 +181,16 @@ pub record Left (plan : Plan) (moment : ℕ) (left : List ℕ × ℕ) : Type 0 w
   pub shows : IsImageOf plan moment (record { bytes = left.0; applied = left.1 })
   pub whole : left.0 ≡ input_image plan moment
 
-module _ (plan : Plan) (moment : ℕ) (are : AreModules plan.modules) where
+module _ (plan : Plan) (moment : ℕ) where
   run_leaves : (rest xs : List Event) (floor : ℕ) (bytes : List ℕ) (n : ℕ) → plan.events ≡ xs ++ rest → n ≡ length xs → All (λ e. e.moment ≤ moment) xs
-      → All (λ e. IsPlanned (input_width plan.modules) e.what) rest → Rising (λ (e : Event). e.moment) floor rest
+      → All (λ e. IsHeld plan.modules e.what) rest → Rising (λ (e : Event). e.moment) floor rest
       → bytes ≡ input_image (with_lines plan xs) moment → Left plan moment (run moment bytes n rest)
   run_leaves [] xs floor bytes n whole count passed below rising is = record {
     shows = stops plan moment xs [] bytes n whole count passed is;
     whole = is ∙ ap (λ (es : List Event). input_image (with_lines plan es) moment) (sym (append-nil xs) ∙ sym whole);
   }
   run_leaves (e ∷ es) xs floor bytes n whole count passed below rising is =
-      by_test (λ ys bytes' n' whole' count' passed' is'. run_leaves es ys e.moment bytes' n' whole' count' passed' (All-tail (λ e. IsPlanned (input_width plan.modules) e.what) e es below) rising.1 is')
+      by_test (λ ys bytes' n' whole' count' passed' is'. run_leaves es ys e.moment bytes' n' whole' count' passed' (All-tail (λ e. IsHeld plan.modules e.what) e es below) rising.1 is')
       (nat_le e.moment moment) refl
     where
       by_test : ((ys : List Event) (bytes' : List ℕ) (n' : ℕ) → plan.events ≡ ys ++ es → n' ≡ length ys → All (λ e. e.moment ≤ moment) ys
@@ -193,7 +202,7 @@ module _ (plan : Plan) (moment : ℕ) (are : AreModules plan.modules) where
           let more : n + 1 ≡ length (xs ++ e ∷ []) = omega (arith, count, length-append xs (e ∷ [])) in
           rw test (deeper (xs ++ e ∷ []) (bytes_after bytes e.what) (n + 1) longer more
           (All-append (λ e. e.moment ≤ moment) xs (e ∷ []) passed (All-cons (λ e. e.moment ≤ moment) e [] due (All-nil (λ e. e.moment ≤ moment))))
-          (apply_step plan moment xs e.moment e.line e.what bytes are (All-head (λ e. IsPlanned (input_width plan.modules) e.what) e es below) due is))
+          (apply_step plan moment xs e.moment e.line e.what bytes (All-head (λ e. IsHeld plan.modules e.what) e es below) due is))
       by_test deeper false test =
           let late : moment < e.moment = leb-false e.moment moment test in
           let each : (k : ℕ) → value_by xs k moment ≡ value_by plan.events k moment =
@@ -231,9 +240,9 @@ run_shows plan earlier moment old bytes applied events left form le view list ra
     let rising = rising_drop 0 applied plan.events (all_rising (λ (e : Event). e.moment) plan.events form.rising) in
     let whole : left ≡ run moment bytes applied (drop applied plan.events) = ran ∙ ap (λ (es : List Event). run moment bytes applied (drop applied es)) list in
     subst (Left plan moment) (sym whole)
-    (run_leaves plan moment form.modules (drop applied plan.events) (take applied plan.events) rising.0 bytes applied
+    (run_leaves plan moment (drop applied plan.events) (take applied plan.events) rising.0 bytes applied
     (sym (take-append-drop applied plan.events)) (sym (length-take-le applied plan.events within)) is.passed
-    (All-drop (λ e. IsPlanned (input_width plan.modules) e.what) applied plan.events form.events) rising.1 is.bytes)
+    (All-drop (λ e. IsHeld plan.modules e.what) applied plan.events (All-weaker (λ (e : Event). HasModule plan.modules e.what) (λ (e : Event). IsHeld plan.modules e.what) (λ e has. is_held plan.modules e.what has) plan.events form.events.inputs)) rising.1 is.bytes)
 
 -- before any line
 pub new_shows : (plan : Plan) (moment : ℕ) (bytes : List ℕ) → bytes ≡ replicate 64 0 → IsImageOf plan moment (record { bytes = bytes; applied = 0 })

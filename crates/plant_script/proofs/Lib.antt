@@ -1,8 +1,11 @@
+pub mod Digits
 pub mod ImageLaws
-pub mod Numbers
+pub mod IndexLaws
+pub mod Passes
 pub mod Pieces
 pub mod Rising
-pub mod ScriptLaws
-pub mod ScriptLines
-pub mod ScriptLoop
+pub mod Sound
+pub mod Texts
 pub mod ValueLaws
+pub mod Values
+pub mod Whole

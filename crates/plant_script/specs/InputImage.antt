@@ -5,7 +5,7 @@ use Rattle.plant_script.specs.declared.plan.Module.{Module}
 use Rattle.plant_script.specs.declared.plan.Event.{Event}
 use Rattle.plant_script.specs.declared.plan.What.{What}
 use Rattle.plant_script.specs.declared.plan.What.TheVariants.{Input, Alarm, Job, Fail, Return, Suspect}
-use Rattle.plant_script.specs.Plan.{Plan}
+use Rattle.plant_script.specs.Plan.{Plan, has_input}
 
 -- the value of an input byte after an event
 abbrev pub value_after : ℕ → ℕ → What → ℕ
@@ -24,10 +24,6 @@ value_by events at_byte moment =
 -- the value of a byte: that of its last INPUT line not later than the moment, else 0
 abbrev pub plant_value : Plan → ℕ → ℕ → ℕ
 plant_value plan at_byte moment = value_by plan.events at_byte moment
-
--- a module of inputs that has the byte
-abbrev pub has_input : ℕ → Module → Bool
-has_input at_byte m = m.input && nat_le m.at_byte at_byte && nat_lt at_byte (m.at_byte + m.len)
 
 -- a byte of the image: the plant value where a module of inputs has the byte, else 0
 abbrev pub image_byte : Plan → ℕ → ℕ → ℕ

@@ -1,6 +1,13 @@
 pub mod Fields
+pub mod FirstPass
+pub mod Form
+pub mod Gives
 pub mod InputImage
+pub mod InputIndex
+pub mod Lines
+pub mod Numbers
 pub mod Plan
-pub mod ScriptReading
-pub mod ScriptText
+pub mod SecondPass
+pub mod Sound
 pub mod Values
+pub mod Words

@@ -1,12 +1,9 @@
-//! The parts of a line.
-ghost use Rattle.std.specs.Prelude.{◌≡◌, ℕ, ◌<◌, ◌^◌, List, Some, IfSome, IsTrue, ◌↔◌};
+//! The parts of a text.
+ghost use Rattle.std.specs.Prelude.{◌≡◌};
 ghost use Rattle.std.specs.Option.{option_map};
-ghost use Rattle.std.specs.Fmt.{decimal};
-ghost use Rattle.plant_script.specs.Fields.{StartsAsNumber, split_at, number_of};
+ghost use Rattle.plant_script.specs.Fields.{split_at};
 
-use std::str;
-
-/// The bytes before the first `end`, and those behind it.
+/// Returns the bytes before the first `end`, and those behind it, or None where no such byte stands.
 pub fn split_at_byte(text: &[u8], end: u8) -> Option<(&[u8], &[u8])>
     ensures { option_map (λ p. (p.0.now, p.1.now)) result ≡ split_at end text.now }
 {
@@ -16,26 +13,4 @@ pub fn split_at_byte(text: &[u8], end: u8) -> Option<(&[u8], &[u8])>
         }
     }
     None
-}
-
-/// Whether there is a first byte, and it is no plus sign and no leading zero.
-fn starts_as_number(digits: &[u8]) -> bool
-    ensures { IsTrue result ↔ StartsAsNumber digits.now }
-{
-    !digits.is_empty() && digits[0] != b'+' && (digits[0] != b'0' || digits.len() == 1)
-}
-
-/// The number that the digits spell, without leading zeros.
-pub fn number_from(digits: &[u8]) -> Option<u32>
-    ensures found { IfSome result (λ n. (n < 2 ^ 32) × (digits.now ≡ decimal n)) }
-    ensures only { (n : ℕ) → n < 2 ^ 32 → digits.now ≡ decimal n → result ≡ Some n }
-    ensures exact { result ≡ number_of digits.now }
-{
-    if !starts_as_number(digits) {
-        return None;
-    }
-    let Ok(text) = str::from_utf8(digits) else {
-        return None;
-    };
-    text.parse::<u32>().ok()
 }

@@ -3,7 +3,8 @@ ghost use Rattle.std.specs.Prelude.{◌≡◌, ℕ, ◌≤◌, ◌+◌, drop};
 ghost use Rattle.plant_script.specs.Plan.{Plan};
 ghost use Rattle.plant_script.specs.InputImage.{input_image, IsImageOf, bytes_after, run};
 
-use crate::plan::{Event, Script, What};
+use crate::plan::{Event, What};
+use crate::script::Script;
 use std::marker::Model;
 
 /// The number of bytes of the image.

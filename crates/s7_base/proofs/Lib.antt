@@ -1,2 +1,1 @@
-pub mod BitStatements
 pub mod Numbers

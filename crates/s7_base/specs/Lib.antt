@@ -1,8 +1,9 @@
 pub mod Blocks
 pub mod Fitting
-pub mod Instruction
+pub mod InstructionSet
 pub mod Limits
 pub mod Operands
+pub mod Optional
 pub mod Priorities
 pub mod Rows
 pub mod Statements

@@ -1,8 +1,8 @@
--- The instruction set by its numbers. The table itself is the constant of `table`.
+-- The instruction set by its numbers.
 use Rattle.std.specs.Prelude.{ℕ, Option, slice_get}
 use Rattle.s7_base.specs.declared.table.InstructionRow.{InstructionRow}
-use Rattle.s7_base.specs.declared.table.TheConstants.{INSTRUCTIONS}
+use Rattle.s7_base.specs.InstructionSet.{instruction_set}
 
 -- the row of a number is the one at this place
 unfoldable pub row_of : ℕ → Option InstructionRow
-row_of number = slice_get INSTRUCTIONS number
+row_of number = slice_get instruction_set number

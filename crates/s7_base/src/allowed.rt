@@ -5,8 +5,8 @@ ghost use Rattle.s7_base.specs.Operands.{is_in, is_data_number, ends_by, is_with
 use crate::Statement;
 use crate::operands::{OperandArea, OperandKind};
 
-/// Whether a data block may have the number.
-fn is_data_number(number: u32) -> bool
+/// Whether a data block may have the number: 1 to 255.
+pub fn is_data_number(number: u32) -> bool
     ensures { result ≡ is_data_number number }
 {
     (1..=255).contains(&number)

@@ -1,5 +1,7 @@
 //! The areas of a CPU, and the entries of its diagnostic buffer.
 
+ghost use Rattle.std.specs.Prelude.{◌≡◌};
+
 use crate::{Side, StopCode};
 
 /// An area of a CPU that is read and written by bytes.
@@ -45,7 +47,10 @@ pub enum DiagCode {
 }
 
 impl Default for DiagCode {
-    fn default() -> DiagCode {
+    /// `Start`: what the unused places of a list of fixed capacity hold.
+    fn default() -> DiagCode
+        ensures { result ≡ DiagCode.Start }
+    {
         DiagCode::Start
     }
 }

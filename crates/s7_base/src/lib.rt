@@ -6,7 +6,6 @@ mod blocks;
 mod diagnostics;
 mod entry;
 mod fitting;
-mod instruction;
 mod jumps;
 mod limits;
 mod operands;
@@ -16,11 +15,11 @@ mod priorities;
 mod statement;
 mod table;
 
+pub use allowed::is_data_number;
 pub use blocks::{BlockRef, Blocks, CodeBlock, CodeKind, DataBlock};
 pub use diagnostics::{Area, DiagCode};
 pub use entry::{Answer, Ask, Entry, Job, JobArea, Loss, Request, Side, StopCode};
 pub use fitting::fits;
-pub use instruction::{BitArea, BitInstruction, BitOperation, Instruction};
 pub use limits::is_ob;
 pub use operands::{OperandArea, OperandKind};
 pub use operation::{
@@ -29,11 +28,8 @@ pub use operation::{
 };
 pub use priorities::priority;
 pub use statement::Statement;
-pub use table::{INSTRUCTIONS, InstructionRow, instruction_row};
+pub use table::{InstructionRow, instruction_row, instruction_set};
 
 /// Memory ran out.
 #[derive(Clone, Copy, Debug, PartialEq, Eq)]
 pub struct NoMemory;
-
-#[cfg(test)]
-mod tests;

@@ -1,5 +1,6 @@
 //! The instruction set in one table.
 ghost use Rattle.std.specs.Prelude.{◌≡◌, slice_get, IsSomeAnd};
+ghost use Rattle.s7_base.specs.InstructionSet.{instruction_set};
 ghost use Rattle.s7_base.specs.Rows.{row_of};
 
 use crate::operands::OperandKind;
@@ -9,7 +10,7 @@ use crate::operation::{
 };
 
 /// A row of the instruction set: an operation, its mnemonic (filled up with zeros), and the operands that it
-/// takes. The place of the row in the table is the operation's number.
+/// takes. The place of the row in the set is the operation's number.
 #[derive(Clone, Copy, Debug, PartialEq, Eq)]
 pub struct InstructionRow {
     pub operation: Operation,
@@ -27,8 +28,7 @@ macro_rules! rows {
     };
 }
 
-/// The instruction set.
-pub const INSTRUCTIONS: [InstructionRow; 128] = rows! {
+const INSTRUCTIONS: [InstructionRow; 128] = rows! {
     BitLogic And b"A\0\0\0\0" OperandKind::CheckedBit;
     BitLogic AndNot b"AN\0\0\0" OperandKind::CheckedBit;
     BitLogic Or b"O\0\0\0\0" OperandKind::CheckedBit;
@@ -159,6 +159,13 @@ pub const INSTRUCTIONS: [InstructionRow; 128] = rows! {
     NoOperation Bld b"BLD\0\0" OperandKind::UpTo(255);
 };
 
+/// The instruction set, in the order of the operations' numbers.
+pub fn instruction_set() -> &'static [InstructionRow; 128]
+    ensures { result.now ≡ instruction_set }
+{
+    &INSTRUCTIONS
+}
+
 fn row_at(rows: &[InstructionRow], number: u16) -> Option<InstructionRow>
     ensures { result ≡ slice_get rows.now number }
 {
@@ -170,7 +177,7 @@ fn row_at(rows: &[InstructionRow], number: u16) -> Option<InstructionRow>
 pub fn instruction_row(number: u16) -> Option<InstructionRow>
     ensures { result ≡ row_of number }
 {
-    row_at(&INSTRUCTIONS, number)
+    row_at(instruction_set(), number)
 }
 
 impl Operation {

@@ -2,7 +2,7 @@
 #![tactic(auto)]
 
 use pair_io::{RealFiles, RealSink, StdOpener};
-use pair_top::{Fault, NoGate, s7h_top};
+use pair_top::{Fault, NoGate, report, s7h_top};
 use std::alloc::{AllocError, Global};
 use std::process::ExitCode;
 use std::rt::Env;
@@ -24,27 +24,19 @@ fn words_of(
     Ok(words)
 }
 
-/// One line on standard error, and the exit status of the fault.
-fn refuse(rt: &impl Eprint, fault: Fault) -> ExitCode {
-    let _ = eprintln!(rt; "s7h: {fault}");
-    ExitCode::from(fault.status())
-}
-
 fn main(rt: HostRuntime) -> ExitCode {
     let alloc = rt.alloc();
+    let mut errors = RealSink::new(rt.stderr());
     let Ok(words) = words_of(&rt, alloc) else {
-        return refuse(&rt, Fault::NoMemory);
+        return ExitCode::from(report(&mut errors, Some(Fault::NoMemory)));
     };
     let (Ok(mut a), Ok(mut b)) = (Subsystem::new(alloc), Subsystem::new(alloc)) else {
-        return refuse(&rt, Fault::NoMemory);
+        return ExitCode::from(report(&mut errors, Some(Fault::NoMemory)));
     };
     let mut files = RealFiles::new(StdOpener::new(&rt));
     let mut sink = RealSink::new(io::writer(&rt));
     let outcome = s7h_top(
         &rt, alloc, &words, &mut files, &mut sink, &mut a, &mut b, &NoGate,
     );
-    match outcome.fault {
-        Some(fault) => refuse(&rt, fault),
-        None => ExitCode::from(0),
-    }
+    ExitCode::from(report(&mut errors, outcome.fault))
 }

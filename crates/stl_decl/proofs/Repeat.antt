@@ -14,8 +14,8 @@ one_left n k h = omega arith
 pub none_left : (n k : ℕ) → n ≤ k → n - k ≡ zero
 none_left n k h = omega arith
 
-module _ {S A : Type 0} (late : Fault) (turn : S → Result (Turn S A) Fault) (s : S) (all : Result A Fault) (n k : ℕ) (here : repeated late turn (n - k) s ≡ all) where
-  abbrev by : Result (Turn S A) Fault → Result A Fault
+module _ {S A F : Type 0} (late : F) (turn : S → Result (Turn S A) F) (s : S) (all : Result A F) (n k : ℕ) (here : repeated late turn (n - k) s ≡ all) where
+  abbrev by : Result (Turn S A) F → Result A F
   by r = r >>= λ t. elim t [ Ended a ↦ Ok a | Goes next ↦ repeated late turn (n - (k + 1)) next ]
 
   left : k < n → by (turn s) ≡ all
@@ -31,7 +31,7 @@ module _ {S A : Type 0} (late : Fault) (turn : S → Result (Turn S A) Fault) (s
   goes_on h next e = subst (λ r. by r ≡ all) e (left h)
 
   -- the turn fails
-  pub fails : k < n → (f : Fault) → turn s ≡ Err f → all ≡ Err f
+  pub fails : k < n → (f : F) → turn s ≡ Err f → all ≡ Err f
   fails h f e = sym (subst (λ r. by r ≡ all) e (left h))
 
   -- no turn is left

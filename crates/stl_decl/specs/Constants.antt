@@ -1,12 +1,11 @@
 -- Constants: numbers, literals, characters, TRUE and FALSE, and what is stored for them.
-use Rattle.std.specs.Prelude.{ℕ, List, [], ◌∷◌, length, take, drop, slice_index, ◌==◌, ◌||◌, ◌+◌, ◌-◌, ◌*◌, ◌/◌, ◌%◌, min, nat_le, Bool, true, false, Option, Some, None, Result, Ok, Err, if◌then◌else◌, codes}
+use Rattle.std.specs.Prelude.{ℕ, List, [], ◌∷◌, length, take, drop, slice_index, ◌==◌, ◌||◌, ◌+◌, ◌-◌, ◌*◌, ◌/◌, ◌%◌, ◌^◌, min, nat_le, Bool, true, false, Option, Some, None, Result, Ok, Err, if◌then◌else◌, codes}
 use Rattle.stl_lex.specs.Bytes.{spells, letters_of}
 use Rattle.stl_lex.specs.Numerals.{value_of, digit_count}
 use Rattle.stl_lex.specs.Durations.{milliseconds}
 use Rattle.stl_lex.specs.Literals.{unsigned, literal_of}
+use Rattle.stl_lex.specs.LiteralTable.{time_units, timer_units}
 use Rattle.stl_lex.specs.declared.durations.TimeUnit.{TimeUnit}
-use Rattle.stl_lex.specs.declared.durations.TheConstants.{TIME_UNITS}
-use Rattle.stl_lex.specs.declared.numerals.TheConstants.{CEILING}
 use Rattle.stl_lex.specs.declared.literals.LiteralValue.{LiteralValue}
 use Rattle.stl_lex.specs.declared.literals.LiteralValue.TheVariants as values
 use Rattle.stl_lex.specs.declared.literals.Literal.{Literal}
@@ -73,22 +72,22 @@ hexadecimal most = if nat_le most 255 then forms.Byte else (if nat_le most 65535
 
 -- the value of digits, as a number of 32 bits
 abbrev pub unsigned_value : ℕ → List ℕ → ℕ
-unsigned_value base digits = stored false CEILING (min (value_of base digits) CEILING)
+unsigned_value base digits = stored false (2 ^ 32) (min (value_of base digits) (2 ^ 32))
 
 -- milliseconds in these units with their sign, as a number of 32 bits
 unfoldable pub time_value : List TimeUnit → List ℕ → ℕ
-time_value units bytes = stored (is_negative bytes) CEILING (min (milliseconds units (unsigned bytes)) CEILING)
+time_value units bytes = stored (is_negative bytes) (2 ^ 32) (min (milliseconds units (unsigned bytes)) (2 ^ 32))
 
 -- what is written behind a literal's prefix
 abbrev pub literal_by : LiteralValue → List ℕ → Option Constant
 literal_by values.Integer bytes =
-    Some (record { form = forms.LongInteger; value = stored (is_negative bytes) CEILING (min (value_of 10 (unsigned bytes)) CEILING) })
+    Some (record { form = forms.LongInteger; value = stored (is_negative bytes) (2 ^ 32) (min (value_of 10 (unsigned bytes)) (2 ^ 32)) })
 literal_by (values.Hexadecimal most) bytes = Some (record { form = hexadecimal most; value = unsigned_value 16 bytes })
-literal_by values.Counter bytes = Some (record { form = forms.Counter; value = bcd_of (min (min (value_of 10 bytes) CEILING) 999) })
+literal_by values.Counter bytes = Some (record { form = forms.Counter; value = bcd_of (min (min (value_of 10 bytes) (2 ^ 32)) 999) })
 literal_by values.Bits bytes = Some (record { form = forms.Bits (min (digit_count bytes) 255); value = unsigned_value 2 bytes })
-literal_by values.Time bytes = Some (record { form = forms.Time; value = time_value TIME_UNITS bytes })
+literal_by values.Time bytes = Some (record { form = forms.Time; value = time_value time_units bytes })
 literal_by values.TimerStart bytes =
-    Some (record { form = forms.TimerStart; value = timer_start (min (milliseconds (drop 1 TIME_UNITS) bytes) CEILING) })
+    Some (record { form = forms.TimerStart; value = timer_start (min (milliseconds timer_units bytes) (2 ^ 32)) })
 literal_by values.Pointer bytes = None
 
 abbrev pub literal_at : Option Literal → List ℕ → Option Constant

@@ -11,3 +11,4 @@ pub mod Initials
 pub mod Declarations
 pub mod Sections
 pub mod Bytes
+pub mod TypeWords

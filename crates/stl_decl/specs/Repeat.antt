@@ -1,6 +1,5 @@
 -- Turns that are made until one of them ends.
 use Rattle.std.specs.Prelude.{◌≡◌, ◌<◌, ℕ, zero, suc, Result, Ok, Err}
-use Rattle.stl_decl.specs.declared.fault.Fault.{Fault}
 use Rattle.stl_decl.specs.Steps.{◌>>=◌}
 
 -- what a turn comes to
@@ -9,7 +8,7 @@ pub data Turn (S A : Type 0) : Type 0 where
   Goes : (state : S) → Turn S A
 
 -- at most n turns, and this fault where none of them ends
-unfoldable pub repeated : {S A : Type 0} → Fault → (S → Result (Turn S A) Fault) → ℕ → S → Result A Fault
+unfoldable pub repeated : {S A F : Type 0} → F → (S → Result (Turn S A) F) → ℕ → S → Result A F
 repeated late turn zero s = Err late
 repeated late turn (suc n) s = turn s >>= λ t. elim t [ Ended a ↦ Ok a | Goes next ↦ repeated late turn n next ]
 

@@ -6,7 +6,6 @@ use Rattle.std.specs.Char.{to_ascii_uppercase}
 use Rattle.std.specs.Str.{bytes_eq}
 use Rattle.stl_lex.specs.Bytes.{spells, begins}
 use Rattle.stl_lex.specs.Numerals.{value_of}
-use Rattle.stl_lex.specs.declared.numerals.TheConstants.{CEILING}
 use Rattle.stl_lex.specs.declared.piece.TokenKind.{TokenKind}
 use Rattle.stl_lex.specs.declared.piece.TokenKind.TheVariants as kinds
 use Rattle.stl_lex.specs.declared.token.Token.{Token}
@@ -17,8 +16,9 @@ use Rattle.stl_decl.specs.declared.fault.StepError.{StepError}
 use Rattle.stl_decl.specs.declared.fault.StepError.TheVariants as errors
 use Rattle.stl_decl.specs.declared.steps.SignedNumber.{SignedNumber}
 
+-- the next step, where the first does not fail
 infixl 10 ◌>>=◌
-abbrev pub ◌>>=◌ : {A B : Type 0} → Result A Fault → (A → Result B Fault) → Result B Fault
+abbrev pub ◌>>=◌ : {A B F : Type 0} → Result A F → (A → Result B F) → Result B F
 (Ok x) >>= f = f x
 (Err e) >>= f = Err e
 
@@ -130,7 +130,7 @@ name_at text (t ∷ ts) = if is_word_kind t.kind then Ok (t, ts) else Err (unfit
 
 -- the value of a number's digits, cut off at 2 ^ 32, which no number of the language reaches
 abbrev pub number_of : List ℕ → Token → ℕ
-number_of text t = min (value_of 10 (spelling text t)) CEILING
+number_of text t = min (value_of 10 (spelling text t)) (2 ^ 32)
 
 -- a number without a sign
 abbrev pub number_at : List ℕ → List Token → Result (ℕ × Token × List Token) Fault

@@ -8,7 +8,7 @@ use Rattle.stl_decl.specs.declared.types.SimpleType.TheVariants as types
 use Rattle.stl_decl.specs.declared.types.Shape.{Shape}
 use Rattle.stl_decl.specs.Places.{Place}
 use Rattle.stl_decl.specs.declared.types.TypeRow.{TypeRow}
-use Rattle.stl_decl.specs.declared.types.TheConstants.{TYPES}
+use Rattle.stl_decl.specs.TypeWords.{type_words}
 
 -- how many bits a value takes
 abbrev pub bits_of : SimpleType → ℕ
@@ -52,7 +52,7 @@ element_bit v k = v.first_bit + k * bits_of v.shape.simple
 
 -- the row of the table that a word has
 unfoldable pub type_row : List ℕ → Option TypeRow
-type_row word = find (λ row. spells (letters_of row.spelling) word) TYPES
+type_row word = find (λ row. spells (letters_of row.spelling) word) type_words
 
 -- a number from -32,768 to 32,767
 abbrev pub is_int : SignedNumber → Bool

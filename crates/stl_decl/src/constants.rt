@@ -9,8 +9,8 @@ use crate::steps::{SignedNumber, end_fault, fault_at, integer_at, is_sign, next,
 use crate::types::{SimpleType, is_int};
 use s5_time::{bcd3, from_millis, write};
 use stl_lex::{
-    CEILING, Literal, LiteralValue, TIME_UNITS, TimeUnit, Token, TokenKind, after, digit_count,
-    letters_of, literal_of, milliseconds, spells, unsigned, value_of,
+    CEILING, Literal, LiteralValue, TimeUnit, Token, TokenKind, after, digit_count, letters_of,
+    literal_of, milliseconds, spells, time_units, timer_units, unsigned, value_of,
 };
 
 /// How a constant is written.
@@ -172,11 +172,11 @@ fn literal_by(value: LiteralValue, bytes: &[u8]) -> Option<Constant>
         }),
         LiteralValue::Time => Some(Constant {
             form: ConstantForm::Time,
-            value: time_value(TIME_UNITS.as_slice(), bytes),
+            value: time_value(time_units(), bytes),
         }),
         LiteralValue::TimerStart => Some(Constant {
             form: ConstantForm::TimerStart,
-            value: timer_start(milliseconds(&TIME_UNITS[1..], bytes)),
+            value: timer_start(milliseconds(timer_units(), bytes)),
         }),
         LiteralValue::Pointer => None,
     }

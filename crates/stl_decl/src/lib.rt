@@ -27,9 +27,6 @@ pub use steps::{
     upper, word_at,
 };
 pub use types::{
-    Meaning, Shape, SimpleType, TYPES, TypeRow, Variable, element_bit, end_bit, first_bit,
-    int_value, is_int, rank, round_up, type_row,
+    Meaning, Shape, SimpleType, TypeRow, Variable, element_bit, end_bit, first_bit, int_value,
+    is_int, rank, round_up, type_row,
 };
-
-#[cfg(test)]
-mod tests;

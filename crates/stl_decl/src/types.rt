@@ -78,8 +78,7 @@ macro_rules! rows {
     };
 }
 
-/// Each word that has a meaning in a type's place.
-pub const TYPES: [TypeRow; 17] = rows! {
+const TYPES: [TypeRow; 17] = rows! {
     b"BOOL\0\0\0\0\0\0\0\0\0" Meaning::Known(SimpleType::Bool);
     b"BYTE\0\0\0\0\0\0\0\0\0" Meaning::Known(SimpleType::Byte);
     b"CHAR\0\0\0\0\0\0\0\0\0" Meaning::Known(SimpleType::Char);

@@ -1,5 +1,5 @@
 -- The classes of bytes of a source text.
-use Rattle.std.specs.Prelude.{codes, ℕ, List, length, take, ◌==◌, ◌&&◌, ◌||◌, not, Bool, nat_le}
+use Rattle.std.specs.Prelude.{codes, ℕ, ◌-◌, ◌++◌, List, length, replicate, take, ◌==◌, ◌&&◌, ◌||◌, not, Bool, nat_le}
 use Rattle.std.specs.List.{prefix_len, list_any}
 use Rattle.std.specs.Str.{str_eq_ignore_ascii_case}
 use Rattle.std.specs.Char.{is_ascii_digit, is_ascii_alphanumeric}
@@ -58,6 +58,10 @@ spells letters word = str_eq_ignore_ascii_case letters word
 abbrev pub begins : List ℕ → List ℕ → Bool
 begins letters bytes = spells letters (take (length letters) bytes)
 
--- the letters of a row of a table, without the zeros that fill them up
+-- letters in a field of so many bytes: the bytes behind them are 0
+abbrev pub in_field : ℕ → List ℕ → List ℕ
+in_field size letters = letters ++ replicate (size - length letters) 0
+
+-- the letters of a field, without the zeros that fill it up
 abbrev pub letters_of : List ℕ → List ℕ
 letters_of filled = take (front_length Letter filled) filled

@@ -8,3 +8,4 @@ pub mod Pieces
 pub mod Tokens
 pub mod Spans
 pub mod Faults
+pub mod LiteralTable

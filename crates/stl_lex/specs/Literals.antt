@@ -6,12 +6,11 @@ use Rattle.stl_lex.specs.declared.piece.TokenKind.TheVariants as kinds
 use Rattle.stl_lex.specs.declared.piece.Form.{Form}
 use Rattle.stl_lex.specs.declared.piece.Form.TheVariants.{Lexeme, Bad}
 use Rattle.stl_lex.specs.declared.durations.TimeUnit.{TimeUnit}
-use Rattle.stl_lex.specs.declared.durations.TheConstants.{TIME_UNITS}
 use Rattle.stl_lex.specs.declared.literals.LiteralValue.{LiteralValue}
 use Rattle.stl_lex.specs.declared.literals.LiteralValue.TheVariants as values
 use Rattle.stl_lex.specs.declared.literals.Literal.{Literal}
-use Rattle.stl_lex.specs.declared.literals.TheConstants.{LITERALS}
 use Rattle.stl_lex.specs.Bytes.{is_plus_or_minus, begins, letters_of}
+use Rattle.stl_lex.specs.LiteralTable.{literals, time_units, timer_units}
 use Rattle.stl_lex.specs.Numerals.{is_numeral, value_of, digit_count}
 use Rattle.stl_lex.specs.Durations.{is_duration, milliseconds}
 
@@ -44,13 +43,13 @@ value_form (values.Hexadecimal most) bytes = numeral_form kinds.Literal 16 most 
 value_form values.Counter bytes = numeral_form kinds.Literal 10 999 bytes
 value_form values.Bits bytes =
     if is_numeral 2 bytes && nat_le (digit_count bytes) 32 then Lexeme kinds.Literal else Bad BadNumber
-value_form values.Time bytes = duration_form TIME_UNITS (farthest bytes) (unsigned bytes)
-value_form values.TimerStart bytes = duration_form (drop 1 TIME_UNITS) 9990000 bytes
+value_form values.Time bytes = duration_form time_units (farthest bytes) (unsigned bytes)
+value_form values.TimerStart bytes = duration_form timer_units 9990000 bytes
 value_form values.Pointer bytes = Lexeme kinds.Literal
 
 -- the row of the table with whose prefix a run begins
 unfoldable pub literal_of : List ℕ → Option Literal
-literal_of run = find (λ row. begins (letters_of row.prefix) run) LITERALS
+literal_of run = find (λ row. begins (letters_of row.prefix) run) literals
 
 -- what a run is by this row
 abbrev pub literal_by : Option Literal → List ℕ → Form

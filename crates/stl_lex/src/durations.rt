@@ -1,6 +1,7 @@
 //! Durations: parts of a number and a unit, from days down to milliseconds.
 ghost use Rattle.std.specs.Prelude.{◌≡◌, ◌≤◌, ◌+◌, length, min};
 ghost use Rattle.stl_lex.specs.Numerals.{number_length};
+ghost use Rattle.stl_lex.specs.LiteralTable.{time_units, timer_units};
 ghost use Rattle.stl_lex.specs.Durations.{unit_length, is_part, part_length, part_value, left_over, is_duration, milliseconds};
 
 use crate::bytes::{ByteClass, after, front_length, letters_of, spells};
@@ -13,8 +14,7 @@ pub struct TimeUnit {
     pub milliseconds: u32,
 }
 
-/// The units of time, in the order in which their parts stand.
-pub const TIME_UNITS: [TimeUnit; 5] = [
+const TIME_UNITS: [TimeUnit; 5] = [
     TimeUnit {
         letters: *b"D\0",
         milliseconds: 86_400_000,
@@ -36,6 +36,20 @@ pub const TIME_UNITS: [TimeUnit; 5] = [
         milliseconds: 1,
     },
 ];
+
+/// The units of time, in the order in which their parts stand.
+pub fn time_units() -> &'static [TimeUnit]
+    ensures { result.now ≡ time_units }
+{
+    &TIME_UNITS
+}
+
+/// The units of a timer's start, which has no days.
+pub fn timer_units() -> &'static [TimeUnit]
+    ensures { result.now ≡ timer_units }
+{
+    &TIME_UNITS[1..]
+}
 
 /// How many bytes stand between the number at the front and the next digit.
 fn unit_length(bytes: &[u8]) -> usize

@@ -13,10 +13,10 @@ mod runs;
 mod token;
 
 pub use bytes::{after, begins, letters_of, spells};
-pub use durations::{TIME_UNITS, TimeUnit, milliseconds};
+pub use durations::{TimeUnit, milliseconds, time_units, timer_units};
 pub use fault::LoadFault;
 pub use lexer::{LexError, tokens};
-pub use literals::{LITERALS, Literal, LiteralValue, literal_of, unsigned};
+pub use literals::{Literal, LiteralValue, literal_of, unsigned};
 pub use numerals::{CEILING, digit_count, value_of};
 pub use piece::TokenKind;
 pub use token::{Token, Tokens};

@@ -3,7 +3,7 @@ ghost use Rattle.std.specs.Prelude.{◌≡◌, ◌<◌, ◌≤◌};
 ghost use Rattle.stl_lex.specs.Literals.{ranged, numeral_form, duration_form, unsigned, farthest, value_form, literal_of, literal_form};
 
 use crate::bytes::{after, begins, byte_at, is_plus_or_minus, letters_of};
-use crate::durations::{TIME_UNITS, TimeUnit, is_duration, milliseconds};
+use crate::durations::{TimeUnit, is_duration, milliseconds, time_units, timer_units};
 use crate::fault::TokenFault;
 use crate::numerals::{CEILING, digit_count, is_numeral, value_of};
 use crate::piece::{Form, TokenKind};
@@ -34,8 +34,7 @@ pub struct Literal {
     pub value: LiteralValue,
 }
 
-/// The literals.
-pub const LITERALS: [Literal; 14] = [
+const LITERALS: [Literal; 14] = [
     Literal {
         prefix: *b"L#\0\0\0\0\0\0\0",
         value: LiteralValue::Integer,
@@ -178,10 +177,8 @@ fn value_form(value: LiteralValue, bytes: &[u8]) -> Form
         }
         LiteralValue::Counter => numeral_form(TokenKind::Literal, 10, 999, bytes),
         LiteralValue::Bits => bits_form(bytes),
-        LiteralValue::Time => {
-            duration_form(TIME_UNITS.as_slice(), farthest(bytes), unsigned(bytes))
-        }
-        LiteralValue::TimerStart => duration_form(&TIME_UNITS[1..], 9_990_000, bytes),
+        LiteralValue::Time => { duration_form(time_units(), farthest(bytes), unsigned(bytes)) }
+        LiteralValue::TimerStart => duration_form(timer_units(), 9_990_000, bytes),
         LiteralValue::Pointer => Form::Lexeme(TokenKind::Literal),
     }
 }

@@ -302,3 +302,11 @@ fn places(rt: HostRuntime) -> Result<(), Fail> {
     }
     Ok(())
 }
+
+#[test]
+fn errors_tell_line_and_kind(rt: HostRuntime) -> Result<(), Fail> {
+    let fault = LexError::Fault(LoadFault { kind: 7, line: 12 });
+    let text = format!(in rt.alloc(); "{fault}, {}", LexError::NoMemory)?;
+    assert_eq!(rt; text.as_str(), "line 12: fault 7, out of memory");
+    Ok(())
+}

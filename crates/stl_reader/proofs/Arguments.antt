@@ -18,7 +18,8 @@ use Rattle.stl_reader.specs.declared.words.OperandWord.{OperandWord}
 use Rattle.stl_reader.specs.declared.words.StatusSign.{StatusSign}
 use Rattle.stl_reader.specs.Forms.{accepts}
 use Rattle.stl_reader.specs.Words.{operand_word, status_sign}
-use Rattle.stl_reader.specs.Addresses.{taken, judged, is_data_number, part_number, part_sign, part_word, address, bit_operand, byte_operand}
+use Rattle.s7_base.specs.Operands.{is_data_number}
+use Rattle.stl_reader.specs.Addresses.{taken, judged, part_number, part_sign, part_word, address, bit_operand, byte_operand}
 use Rattle.stl_reader.specs.Constants.{is_plus_or_minus, is_real, form_of, number_operand, unsigned_operand, single_operand, is_zero, zero_at, status_operand, signed_operand, sign_by}
 use Rattle.stl_reader.specs.Operands.{plain_operand, instance_operand, system_judged, system_operand, taken_operand, row_operand, data_number, is_data_word, data_word_by, data_word, takes_memory, opened_operand, unnamed_operand, label_name, label_operand, word_by, area_operand}
 use Rattle.stl_reader.specs.Locals.{local_form, suits_mnemonic, element_operand, variable_operand, named_local, local_operand}

@@ -14,9 +14,9 @@ use Rattle.stl_reader.specs.declared.items.LabelName.{LabelName}
 use Rattle.stl_reader.specs.declared.items.Item.{Item}
 use Rattle.stl_reader.specs.declared.mnemonics.Meaning.{Meaning}
 use Rattle.stl_reader.specs.declared.mnemonics.Meaning.TheVariants.{Mnemonic, Refused}
-use Rattle.stl_reader.specs.declared.addresses.TheConstants.{CALL}
 use Rattle.stl_reader.specs.Mnemonics.{meaning_of, with_rest, pair_at, one_at, longer_of, run_at, meant, mnemonic_by, mnemonic_at}
 use Rattle.stl_reader.specs.Operands.{label_name}
+use Rattle.stl_reader.specs.Addresses.{call}
 use Rattle.stl_reader.specs.Statements.{first_of, argument_at, operation_at, closing_at, statement_at}
 use Rattle.stl_reader.specs.Items.{end_word, block_locals, label_by, label_at, bare, labelled_item, labelled_at, second_label, behind_label, item_by, item_at, is_heading, part_at}
 use Rattle.stl_reader.specs.Contents.{Contents}
@@ -71,7 +71,7 @@ semicolon_leaves text last (t ∷ ts) = either (is_sign text t (codes ";")) _ _ 
 
 closing_leaves : (text mnemonic : List ℕ) (last : Token) (tokens : List Token) → Leaves (λ x. x) (length tokens) (closing_at text mnemonic last tokens)
 closing_leaves text mnemonic last [] = refuses _
-closing_leaves text mnemonic last (t ∷ ts) = either (bytes_eq mnemonic CALL && is_sign text t (codes "(")) _ _ (refuses _) (semicolon_leaves text last (t ∷ ts))
+closing_leaves text mnemonic last (t ∷ ts) = either (bytes_eq mnemonic call && is_sign text t (codes "(")) _ _ (refuses _) (semicolon_leaves text last (t ∷ ts))
 
 statement_leaves : (text : List ℕ) (locals : ℕ) (temps : Section) (tokens : List Token) → Leaves (λ x. x.2) (length tokens) (statement_at text locals temps tokens)
 unfolding statement_at

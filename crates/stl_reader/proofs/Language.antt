@@ -11,7 +11,7 @@ use Rattle.s7_base.specs.declared.operands.OperandKind.TheVariants as kinds
 use Rattle.s7_base.specs.declared.operation.Operation.TheVariants as groups
 use Rattle.s7_base.specs.declared.operation.BitLogic.TheVariants as logic
 use Rattle.s7_base.specs.declared.table.InstructionRow.{InstructionRow}
-use Rattle.s7_base.specs.declared.table.TheConstants.{INSTRUCTIONS}
+use Rattle.s7_base.specs.InstructionSet.{instruction_set}
 use Rattle.s7_base.specs.declared.statement.Statement.{Statement}
 use Rattle.s7_base.specs.Operands.{allows}
 use Rattle.s7_base.specs.Rows.{row_of}
@@ -70,7 +70,7 @@ row_allows rows mnemonic locals o n e =
 -- the operation that was found allows the operand
 pub operation_allows : (mnemonic : List ℕ) (locals : ℕ) (o : Operand) (n : ℕ) → operation_of mnemonic locals o ≡ Some n → is_statement locals (stored n o) ≡ true
 unfolding operation_of row_of
-operation_allows mnemonic locals o n e = row_allows INSTRUCTIONS mnemonic locals o n e
+operation_allows mnemonic locals o n e = row_allows instruction_set mnemonic locals o n e
 
 operation_takes : (found : Option ℕ) (first : Token) (n : ℕ) → operation_by found first ≡ Ok n → found ≡ Some n
 operation_takes (Some m) first n e = let same : m ≡ n = cc in ap (λ k. Some k) same

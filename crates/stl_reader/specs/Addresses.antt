@@ -1,6 +1,7 @@
 -- The parts of an operand.
 use Rattle.std.specs.Prelude.{ℕ, List, [], ◌∷◌, ◌&&◌, min, nat_le, Bool, Result, Ok, Err, if◌then◌else◌, codes}
 use Rattle.std.specs.Str.{bytes_eq}
+use Rattle.stl_lex.specs.Bytes.{in_field}
 use Rattle.stl_lex.specs.declared.token.Token.{Token}
 use Rattle.stl_decl.specs.declared.fault.Fault.{Fault}
 use Rattle.stl_decl.specs.declared.fault.FaultKind.TheVariants.{BadOperand, OutOfScope}
@@ -8,8 +9,11 @@ use Rattle.stl_decl.specs.Steps.{◌>>=◌, end_fault, fault_at, unfit, is_numbe
 use Rattle.stl_reader.specs.declared.forms.OperandForm.{OperandForm}
 use Rattle.stl_reader.specs.declared.words.OperandWord.{OperandWord}
 use Rattle.stl_reader.specs.declared.addresses.Operand.{Operand}
-use Rattle.stl_reader.specs.declared.addresses.TheConstants.{CALL}
 use Rattle.stl_reader.specs.Forms.{accepts}
+
+-- the mnemonic behind which a list of parameters would stand
+abbrev pub call : List ℕ
+call = in_field 5 (codes "CALL")
 
 -- the name of no label
 abbrev pub no_name : List ℕ
@@ -18,7 +22,7 @@ no_name = 0 ∷ 0 ∷ 0 ∷ 0 ∷ []
 -- a token that can't stand in an operand; the list of parameters of a CALL is left out of the language
 abbrev pub refused : List ℕ → List ℕ → Token → Fault
 refused text mnemonic t =
-    if bytes_eq mnemonic CALL && is_sign text t (codes "(") then fault_at OutOfScope t else unfit text t
+    if bytes_eq mnemonic call && is_sign text t (codes "(") then fault_at OutOfScope t else unfit text t
 
 -- an operand of this form may stand behind the mnemonic
 abbrev pub taken : List ℕ → List ℕ → OperandForm → Token → Result (Unit {0}) Fault
@@ -27,10 +31,6 @@ taken text mnemonic form t = if accepts mnemonic form then Ok tt else Err (refus
 -- an operand that is none as a whole has its fault at its first token
 abbrev pub judged : Bool → Token → Result (Unit {0}) Fault
 judged holds t = if holds then Ok tt else Err (fault_at BadOperand t)
-
--- data blocks have the numbers 1 to 255
-abbrev pub is_data_number : ℕ → Bool
-is_data_number number = nat_le 1 number && nat_le number 255
 
 -- a number
 abbrev pub part_number : List ℕ → List ℕ → List Token → Result (ℕ × Token × List Token) Fault

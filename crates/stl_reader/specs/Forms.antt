@@ -4,7 +4,7 @@ use Rattle.std.specs.List.{list_any}
 use Rattle.std.specs.Str.{bytes_eq}
 use Rattle.s7_base.specs.declared.operands.OperandKind.{OperandKind}
 use Rattle.s7_base.specs.declared.operands.OperandKind.TheVariants as kinds
-use Rattle.s7_base.specs.declared.table.TheConstants.{INSTRUCTIONS}
+use Rattle.s7_base.specs.InstructionSet.{instruction_set}
 use Rattle.stl_reader.specs.declared.forms.OperandForm.{OperandForm}
 use Rattle.stl_reader.specs.declared.forms.OperandForm.TheVariants as forms
 
@@ -157,12 +157,12 @@ takes_some _ = true
 
 -- an operand of this form may stand behind the mnemonic
 unfoldable pub accepts : List ℕ → OperandForm → Bool
-accepts mnemonic form = list_any (λ row. bytes_eq row.mnemonic mnemonic && takes row.operand form) INSTRUCTIONS
+accepts mnemonic form = list_any (λ row. bytes_eq row.mnemonic mnemonic && takes row.operand form) instruction_set
 
 -- the mnemonic may stand without an operand
 unfoldable pub may_be_alone : List ℕ → Bool
-may_be_alone mnemonic = list_any (λ row. bytes_eq row.mnemonic mnemonic && takes_none row.operand) INSTRUCTIONS
+may_be_alone mnemonic = list_any (λ row. bytes_eq row.mnemonic mnemonic && takes_none row.operand) instruction_set
 
 -- an operand may stand behind the mnemonic
 unfoldable pub takes_operand : List ℕ → Bool
-takes_operand mnemonic = list_any (λ row. bytes_eq row.mnemonic mnemonic && takes_some row.operand) INSTRUCTIONS
+takes_operand mnemonic = list_any (λ row. bytes_eq row.mnemonic mnemonic && takes_some row.operand) instruction_set

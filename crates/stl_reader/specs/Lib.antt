@@ -10,3 +10,5 @@ pub mod Items
 pub mod Contents
 pub mod Reading
 pub mod Sound
+pub mod OperandWords
+pub mod RefusedInstructions

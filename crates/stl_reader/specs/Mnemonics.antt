@@ -1,4 +1,4 @@
--- Mnemonics: the longest run of adjacent tokens that is one. The tables are constants of the code.
+-- Mnemonics: the longest run of adjacent tokens that is one.
 use Rattle.std.specs.Prelude.{ℕ, List, [], ◌∷◌, ◌==◌, Option, Some, None, Result, Ok, Err, if◌then◌else◌}
 use Rattle.std.specs.List.{find}
 use Rattle.stl_lex.specs.Bytes.{spells, letters_of}
@@ -7,19 +7,19 @@ use Rattle.stl_decl.specs.declared.fault.FaultKind.TheVariants.{UnknownInstructi
 use Rattle.stl_decl.specs.declared.fault.Fault.{Fault}
 use Rattle.stl_decl.specs.Steps.{spelling, end_fault, fault_at}
 use Rattle.s7_base.specs.declared.table.InstructionRow.{InstructionRow}
-use Rattle.s7_base.specs.declared.table.TheConstants.{INSTRUCTIONS}
-use Rattle.stl_reader.specs.declared.mnemonics.TheConstants.{REFUSED}
+use Rattle.s7_base.specs.InstructionSet.{instruction_set}
+use Rattle.stl_reader.specs.RefusedInstructions.{refused_instructions}
 use Rattle.stl_reader.specs.declared.mnemonics.RefusedInstruction.{RefusedInstruction}
 use Rattle.stl_reader.specs.declared.mnemonics.Meaning.{Meaning}
 use Rattle.stl_reader.specs.declared.mnemonics.Meaning.TheVariants.{Mnemonic, Refused}
 
 -- the first row of the instruction set with the mnemonic
 unfoldable pub row_named : List ℕ → Option InstructionRow
-row_named word = find (λ row. spells (letters_of row.mnemonic) word) INSTRUCTIONS
+row_named word = find (λ row. spells (letters_of row.mnemonic) word) instruction_set
 
 -- the row of an instruction of real numbers, or of one that is out of scope
 unfoldable pub refused_named : List ℕ → Option RefusedInstruction
-refused_named word = find (λ row. spells (letters_of row.mnemonic) word) REFUSED
+refused_named word = find (λ row. spells (letters_of row.mnemonic) word) refused_instructions
 
 abbrev pub refusal_by : Option RefusedInstruction → Option Meaning
 refusal_by (Some row) = Some (Refused row.fault)

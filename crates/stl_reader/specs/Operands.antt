@@ -1,12 +1,11 @@
 -- Operands that begin with a word: areas, blocks, status operands and labels.
-use Rattle.std.specs.Prelude.{ℕ, List, [], ◌∷◌, length, drop, ◌==◌, ◌&&◌, ◌||◌, not, min, Bool, true, false, Option, Some, None, Result, Ok, Err, if◌then◌else◌, codes}
+use Rattle.std.specs.Prelude.{ℕ, List, [], ◌∷◌, length, drop, ◌==◌, ◌&&◌, ◌||◌, not, ◌^◌, min, Bool, true, false, Option, Some, None, Result, Ok, Err, if◌then◌else◌, codes}
 use Rattle.std.specs.List.{list_all}
 use Rattle.std.specs.Char.{is_ascii_digit, to_ascii_uppercase}
 use Rattle.s7_base.specs.declared.operands.OperandArea.{OperandArea}
 use Rattle.s7_base.specs.declared.operands.OperandArea.TheVariants as areas
 use Rattle.stl_lex.specs.Bytes.{begins}
 use Rattle.stl_lex.specs.Numerals.{value_of}
-use Rattle.stl_lex.specs.declared.numerals.TheConstants.{CEILING}
 use Rattle.stl_lex.specs.declared.token.Token.{Token}
 use Rattle.stl_decl.specs.declared.fault.Fault.{Fault}
 use Rattle.stl_decl.specs.declared.fault.FaultKind.TheVariants.{BadOperand, OutOfScope}
@@ -17,7 +16,8 @@ use Rattle.stl_reader.specs.declared.words.OperandWord.{OperandWord}
 use Rattle.stl_reader.specs.declared.addresses.Operand.{Operand}
 use Rattle.stl_reader.specs.Forms.{accepts}
 use Rattle.stl_reader.specs.Words.{operand_word}
-use Rattle.stl_reader.specs.Addresses.{no_name, refused, taken, judged, is_data_number, part_sign, part_word, address, word_operand, bit_operand, byte_operand}
+use Rattle.s7_base.specs.Operands.{is_data_number}
+use Rattle.stl_reader.specs.Addresses.{no_name, refused, taken, judged, part_sign, part_word, address, word_operand, bit_operand, byte_operand}
 
 -- what stands behind a word of the table, by its form
 abbrev pub plain_operand : OperandForm → List ℕ → List ℕ → OperandWord → Token → List Token → Result (Operand × Token × List Token) Fault
@@ -70,7 +70,7 @@ is_digits word = not (length word == 0) && list_all is_ascii_digit word
 -- DB and digits: the data block of this number
 abbrev pub data_number : List ℕ → Option ℕ
 data_number word =
-    if begins (codes "DB") word && is_digits (drop 2 word) then Some (min (min (value_of 10 (drop 2 word)) CEILING) 4294967295)
+    if begins (codes "DB") word && is_digits (drop 2 word) then Some (min (min (value_of 10 (drop 2 word)) (2 ^ 32)) 4294967295)
     else None
 
 abbrev pub is_data_area : OperandArea → Bool

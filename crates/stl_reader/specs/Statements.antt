@@ -5,7 +5,7 @@ use Rattle.std.specs.List.{position}
 use Rattle.std.specs.Str.{bytes_eq}
 use Rattle.s7_base.specs.declared.operands.OperandArea.TheVariants as areas
 use Rattle.s7_base.specs.declared.statement.Statement.{Statement}
-use Rattle.s7_base.specs.declared.table.TheConstants.{INSTRUCTIONS}
+use Rattle.s7_base.specs.InstructionSet.{instruction_set}
 use Rattle.s7_base.specs.Operands.{allows, area_number, is_in}
 use Rattle.stl_lex.specs.Bytes.{spells}
 use Rattle.stl_lex.specs.declared.piece.TokenKind.{TokenKind}
@@ -17,11 +17,10 @@ use Rattle.stl_decl.specs.Steps.{◌>>=◌, spelling, end_fault, fault_at, is_nu
 use Rattle.stl_decl.specs.Constants.{constant_of}
 use Rattle.stl_decl.specs.Layout.{Section}
 use Rattle.stl_reader.specs.declared.addresses.Operand.{Operand}
-use Rattle.stl_reader.specs.declared.addresses.TheConstants.{CALL}
 use Rattle.stl_reader.specs.Forms.{takes_operand, may_be_alone}
 use Rattle.stl_reader.specs.Words.{operand_word, status_sign}
 use Rattle.stl_reader.specs.Mnemonics.{mnemonic_at}
-use Rattle.stl_reader.specs.Addresses.{no_name, refused}
+use Rattle.stl_reader.specs.Addresses.{call, no_name, refused}
 use Rattle.stl_reader.specs.Constants.{is_plus_or_minus, is_figure_next, is_real, is_zero_next, unsigned_operand, single_operand, sign_operand}
 use Rattle.stl_reader.specs.Operands.{data_number, area_operand}
 use Rattle.stl_reader.specs.Locals.{local_operand}
@@ -105,7 +104,7 @@ stored op o = record { op = op; area = area_number o.area; bit = o.bit; db = o.d
 -- the first operation with the mnemonic that allows the operand, by its place in the instruction set
 unfoldable pub operation_of : List ℕ → ℕ → Operand → Option ℕ
 operation_of mnemonic locals o =
-    position (λ row. bytes_eq row.mnemonic mnemonic && allows row.operand locals (stored 0 o)) INSTRUCTIONS
+    position (λ row. bytes_eq row.mnemonic mnemonic && allows row.operand locals (stored 0 o)) instruction_set
 
 abbrev pub operation_by : Option ℕ → Token → Result ℕ Fault
 operation_by (Some number) first = Ok number
@@ -123,7 +122,7 @@ first_of last (t ∷ ts) = t
 abbrev pub closing_at : List ℕ → List ℕ → Token → List Token → Result (List Token) Fault
 closing_at text mnemonic last [] = semicolon_at text last []
 closing_at text mnemonic last (t ∷ ts) =
-    if bytes_eq mnemonic CALL && is_sign text t (codes "(") then Err (fault_at OutOfScope t) else semicolon_at text last (t ∷ ts)
+    if bytes_eq mnemonic call && is_sign text t (codes "(") then Err (fault_at OutOfScope t) else semicolon_at text last (t ∷ ts)
 
 -- the label that a statement jumps to, if it is a jump
 abbrev pub target_of : Statement → List ℕ → Option (List ℕ)

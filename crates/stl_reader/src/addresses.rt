@@ -1,7 +1,7 @@
 //! The parts of an operand, and what an operand is.
 ghost use Rattle.std.specs.Prelude.{◌≡◌, ◌≤◌, length, IfOk};
 ghost use Rattle.stl_decl.specs.Steps.{Gives, seen, at_rest};
-ghost use Rattle.stl_reader.specs.Addresses.{refused, part_number, part_sign, part_word, address, taken, judged, is_data_number, word_operand, bit_operand, byte_operand};
+ghost use Rattle.stl_reader.specs.Addresses.{refused, part_number, part_sign, part_word, address, taken, judged, word_operand, bit_operand, byte_operand};
 
 use crate::forms::{OperandForm, accepts};
 use crate::words::OperandWord;
@@ -56,13 +56,6 @@ pub fn judged(holds: bool, token: Token) -> Result<(), Fault>
     } else {
         Err(fault_at(FaultKind::BadOperand, token))
     }
-}
-
-/// Data blocks have the numbers 1 to 255.
-pub fn is_data_number(number: u32) -> bool
-    ensures { result ≡ is_data_number number }
-{
-    1 <= number && number <= 255
 }
 
 /// A number.

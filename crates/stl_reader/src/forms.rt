@@ -2,7 +2,7 @@
 ghost use Rattle.std.specs.Prelude.{◌≡◌};
 ghost use Rattle.stl_reader.specs.Forms.{takes, takes_none, accepts, may_be_alone, takes_some, takes_operand};
 
-use s7_base::{INSTRUCTIONS, OperandKind};
+use s7_base::{OperandKind, instruction_set};
 
 /// How an operand is written.
 #[derive(Clone, Copy, Debug, PartialEq, Eq)]
@@ -134,7 +134,7 @@ fn takes_some(kind: OperandKind) -> bool
 pub fn accepts(mnemonic: [u8; 5], form: OperandForm) -> bool
     ensures { result ≡ accepts mnemonic form }
 {
-    INSTRUCTIONS
+    instruction_set()
         .iter()
         .any(|row| row.mnemonic == mnemonic && takes(row.operand, form))
 }
@@ -144,7 +144,7 @@ pub fn accepts(mnemonic: [u8; 5], form: OperandForm) -> bool
 pub fn may_be_alone(mnemonic: [u8; 5]) -> bool
     ensures { result ≡ may_be_alone mnemonic }
 {
-    INSTRUCTIONS
+    instruction_set()
         .iter()
         .any(|row| row.mnemonic == mnemonic && takes_none(row.operand))
 }
@@ -154,7 +154,7 @@ pub fn may_be_alone(mnemonic: [u8; 5]) -> bool
 pub fn takes_operand(mnemonic: [u8; 5]) -> bool
     ensures { result ≡ takes_operand mnemonic }
 {
-    INSTRUCTIONS
+    instruction_set()
         .iter()
         .any(|row| row.mnemonic == mnemonic && takes_some(row.operand))
 }

@@ -18,6 +18,3 @@ pub use contents::{Body, Jump, Label};
 pub use items::BodyStatement;
 pub use laws::more_turns_read_the_same;
 pub use reading::{ReadError, body};
-
-#[cfg(test)]
-mod tests;

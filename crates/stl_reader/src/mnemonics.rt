@@ -4,7 +4,7 @@ ghost use Rattle.std.specs.Option.{option_map};
 ghost use Rattle.stl_decl.specs.Steps.{Gives, seen, spelling};
 ghost use Rattle.stl_reader.specs.Mnemonics.{row_named, refused_named, refusal_by, meaning_of, pair_at, one_at, run_at, meant, mnemonic_at};
 
-use s7_base::{INSTRUCTIONS, InstructionRow};
+use s7_base::{InstructionRow, instruction_set};
 use stl_decl::{Fault, FaultKind, end_fault, fault_at, next, spelling};
 use stl_lex::{Token, letters_of, spells};
 
@@ -24,8 +24,7 @@ macro_rules! refused {
     };
 }
 
-/// The instructions of real numbers, and those on address registers and the like.
-pub const REFUSED: [RefusedInstruction; 36] = refused! {
+const REFUSED: [RefusedInstruction; 36] = refused! {
     b"+R\0\0\0" RealInstruction;
     b"-R\0\0\0" RealInstruction;
     b"*R\0\0\0" RealInstruction;
@@ -78,7 +77,7 @@ pub enum Meaning {
 fn row_named(word: &[u8]) -> Option<InstructionRow>
     ensures { result ≡ row_named word.now }
 {
-    INSTRUCTIONS
+    instruction_set()
         .iter()
         .copied()
         .find(|row| spells(letters_of(row.mnemonic.as_slice()), word))

@@ -6,12 +6,12 @@ ghost use Rattle.stl_decl.specs.Steps.{Gives, seen, spelling};
 ghost use Rattle.stl_reader.specs.Operands.{plain_operand, instance_operand, system_judged, system_operand, row_operand, is_digits, data_number, is_data_word, data_word, takes_memory, opened_operand, unnamed_operand, label_name, label_operand, area_operand};
 
 use crate::addresses::{
-    NO_NAME, Operand, address, bit_operand, byte_operand, is_data_number, judged, part_sign,
-    part_word, refused, taken, word_operand,
+    NO_NAME, Operand, address, bit_operand, byte_operand, judged, part_sign, part_word, refused,
+    taken, word_operand,
 };
 use crate::forms::{OperandForm, accepts};
 use crate::words::{OperandWord, operand_word};
-use s7_base::OperandArea;
+use s7_base::{OperandArea, is_data_number};
 use stl_decl::{Fault, FaultKind, end_fault, fault_at, is_word, next, spelling};
 use stl_lex::{Token, TokenKind, after, begins, value_of};
 

@@ -13,7 +13,7 @@ use crate::locals::local_operand;
 use crate::mnemonics::mnemonic_at;
 use crate::operands::{area_operand, data_number};
 use crate::words::{operand_word, status_sign};
-use s7_base::{INSTRUCTIONS, OperandArea, Statement};
+use s7_base::{OperandArea, Statement, instruction_set};
 use std::alloc::Global;
 use stl_decl::{
     Fault, FaultKind, Layout, StepError, end_fault, fault_at, is_sign, next, semicolon_at, spelling,
@@ -210,7 +210,7 @@ fn operation_of(mnemonic: [u8; 5], locals: u32, operand: Operand) -> Option<usiz
     ensures within { IfSome result (λ n. n < 128) }
 {
     let statement = stored(0, operand);
-    INSTRUCTIONS.iter().position(|row| row.mnemonic == mnemonic
+    instruction_set().iter().position(|row| row.mnemonic == mnemonic
         && statement.has_operand(row.operand, locals))
 }
 

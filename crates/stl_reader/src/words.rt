@@ -29,8 +29,7 @@ macro_rules! words {
     };
 }
 
-/// The words that operands begin with.
-pub const OPERAND_WORDS: [OperandWord; 46] = words! {
+const OPERAND_WORDS: [OperandWord; 46] = words! {
     b"I\0\0\0" Bit Inputs 0 0;
     b"Q\0\0\0" Bit Outputs 0 0;
     b"M\0\0\0" Bit Memory 0 0;
@@ -86,8 +85,7 @@ pub struct StatusSign {
     pub value: u32,
 }
 
-/// The comparisons with 0.
-pub const STATUS_SIGNS: [StatusSign; 6] = [
+const STATUS_SIGNS: [StatusSign; 6] = [
     StatusSign {
         sign: *b"==",
         value: 4,

@@ -4,6 +4,3 @@
 mod parts;
 
 pub use parts::{How, Life, Subsystem};
-
-#[cfg(test)]
-mod tests;

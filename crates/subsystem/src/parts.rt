@@ -4,7 +4,7 @@ ghost use Rattle.std.specs.Option.{option_map};
 ghost use Rattle.s7_base.specs.Blocks.{Program, IsPlayable};
 ghost use Rattle.s7_base.specs.declared.entry.Answer.{Answer};
 ghost use Rattle.s7_base.specs.declared.entry.Request.{Request};
-ghost use Rattle.mc_machine.specs.Stands.{CanAsk, CanTake, CanGoOn, IsAsked, IsIdle, WaitsAt, Stands, CpuWaits, CpuStopped, OfRunning, HasSizes, byte_of, counter_of, notes_of};
+ghost use Rattle.mc_machine.specs.Stands.{CanAsk, CanTake, IsDated, CanGoOn, IsAsked, IsIdle, WaitsAt, Stands, CpuWaits, CpuStopped, OfRunning, HasSizes, byte_of, counter_of, notes_of};
 ghost use Rattle.subsystem.specs.Part.{IsNew, IsOpen, first_life, TookOne};
 
 use mc_machine::Machine;
@@ -120,7 +120,7 @@ impl Subsystem {
         ensures lives { TookOne self.old.lives self.new.lives }
         ensures running { IsOpen self.new }
         ensures going { CanGoOn self.old.machine answer.now → CanAsk self.new.machine }
-        ensures stands { (program : Program) (given : List Answer) → moment ≡ length given → Stands program given self.old.machine
+        ensures stands { (program : Program) (given : List Answer) → moment ≡ length given → IsDated moment answer.now → Stands program given self.old.machine
             → Stands program (given ++ answer.now ∷ []) self.new.machine }
     {
         self.machine.take(answer, moment);

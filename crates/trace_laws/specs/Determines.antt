@@ -51,6 +51,11 @@ abbrev pub TextDetermines : Program → Run → Run → Type 0
 TextDetermines program first second =
     IsWritten program first → IsWritten program second → text_of first ≡ text_of second → AreSame first second
 
+-- where these are the texts of two runs of the program, the runs are the same
+abbrev pub AreOfOneRun : Program → Run → Run → List ℕ → List ℕ → Type 0
+AreOfOneRun program one two first second =
+    IsWritten program one → IsWritten program two → text_of one ≡ first → text_of two ≡ second → AreSame one two
+
 -- What is asked lies in the ranges of its types: an image has 64 bytes, an address 16 bits, a width 8 bits; and a value lies
 -- in as many bytes as are written of it.
 abbrev pub IsInRange : Ask → Type 0

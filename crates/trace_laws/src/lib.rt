@@ -3,4 +3,4 @@
 
 mod laws;
 
-pub use laws::{text_alone_determines, text_determines};
+pub use laws::{is_same_text, text_alone_determines, text_determines};

@@ -9,6 +9,7 @@ mod tail;
 mod views;
 mod writing;
 
+pub use line::{LINE_ROOM, Line};
 pub use load_text::print_load;
 pub use printer::print;
 pub use writing::SinkFault;

@@ -1,66 +1,72 @@
-//! Plays the worked rows: each is a folder with the words of a command and the files that these name. The list
-//! of the folders is the file `rows`. Standard output is the text of each row, behind a line with its name and
-//! before a line with its status and its fault.
+//! Plays the worked rows and the examples. Each is a folder with the words of a command and the files that these name; the lists of
+//! the folders are the files `rows` and `examples`. Standard output is the text of each row, after a line with its name and before a
+//! line with its exit status and the line that the program prints on a fault. Of an example it says whether what was written is
+//! the text that stands beside it, whose name the list gives. Then come the refusals of an outside that has no capacity.
 #![tactic(auto)]
 
 mod opener;
+mod playing;
+mod refusals;
 
 use anyhow::Context;
 use opener::RowOpener;
-use pair_io::{RealFiles, RealSink};
-use pair_top::{NoGate, Outcome, s7h_top};
+use pair_io::{MemSink, RealFiles, RealSink};
+use playing::{play, show_end};
+use refusals::show_refusals;
 use std::alloc::Global;
 use std::rt::Files;
 use std::sync::Wait;
 use std::thread::Threads;
 use std::{fs, io};
-use subsystem::Subsystem;
 
-/// The lines of a text, as words.
-fn words_of(alloc: Global, text: &str) -> anyhow::Result<Vec<Vec<u8>>> {
-    let mut words = Vec::new(alloc);
-    for line in text.lines() {
-        words.push(line.as_bytes().to_vec(alloc)?)?;
-    }
-    Ok(words)
-}
-
-/// Plays a row over the files of its folder.
-fn play<R: Threads + Wait + Sync + Files + Print + Alloc<A = Global>>(
-    rt: &R,
-    folder: &str,
-) -> anyhow::Result<Outcome> {
-    let alloc = rt.alloc();
-    let args = fs::read_to_string(rt, format!(in alloc; "{folder}/args")?.as_str())?;
-    let words = words_of(alloc, args.as_str())?;
-    let mut a = Subsystem::new(alloc).ok().context("no memory")?;
-    let mut b = Subsystem::new(alloc).ok().context("no memory")?;
-    let mut files = RealFiles::new(RowOpener::new(rt, alloc, folder));
-    let mut sink = RealSink::new(io::writer(rt));
-    Ok(s7h_top(
-        rt, alloc, &words, &mut files, &mut sink, &mut a, &mut b, &NoGate,
-    ))
-}
+/// How many bytes the text of an example may have.
+const TEXT_CAPACITY: u32 = 1_000_000;
 
 /// Plays a row between its name and its status.
-fn show<R: Threads + Wait + Sync + Files + Print + Alloc<A = Global>>(
+fn show_row<R: Threads + Wait + Sync + Files + Print + Alloc<A = Global>>(
     rt: &R,
     folder: &str,
 ) -> anyhow::Result<()> {
     println!(rt; "== {folder}")?;
-    let outcome = play(rt, folder)?;
-    let status = outcome.status;
-    match outcome.fault {
-        None => println!(rt; "-- {status}")?,
-        Some(fault) => println!(rt; "-- {status} {fault}")?,
-    }
+    let mut files = RealFiles::new(RowOpener::new(rt, rt.alloc(), folder));
+    let mut sink = RealSink::new(io::writer(rt));
+    let fault = play(rt, folder, &mut files, &mut sink)?;
+    show_end(rt, fault)?;
+    Ok(())
+}
+
+/// Plays an example, and compares what it writes with the file of this name in its folder.
+fn show_example<R: Threads + Wait + Sync + Files + Print + Alloc<A = Global>>(
+    rt: &R,
+    folder: &str,
+    name: &str,
+) -> anyhow::Result<()> {
+    let alloc = rt.alloc();
+    let mut files = RealFiles::new(RowOpener::new(rt, alloc, folder));
+    let mut sink = MemSink::new(alloc, TEXT_CAPACITY, Vec::new(alloc))
+        .ok()
+        .context("no memory")?;
+    let fault = play(rt, folder, &mut files, &mut sink)?;
+    let text = fs::read(rt, format!(in alloc; "{folder}/{name}")?.as_str())?;
+    let finding = if sink.written() == text.as_slice() {
+        "as written"
+    } else {
+        "another text"
+    };
+    println!(rt; "== example {folder}: {finding}")?;
+    show_end(rt, fault)?;
     Ok(())
 }
 
 fn main(rt: HostRuntime) -> anyhow::Result<()> {
     let rows = fs::read_to_string(&rt, "rows")?;
     for folder in rows.as_str().lines() {
-        show(&rt, folder)?;
+        show_row(&rt, folder)?;
     }
-    Ok(())
+    let examples = fs::read_to_string(&rt, "examples")?;
+    for example in examples.as_str().lines() {
+        let (folder, name) = example.split_once(' ').context("a folder and a file")?;
+        show_example(&rt, folder, name)?;
+    }
+    show_refusals(&rt)
 }

@@ -5,7 +5,8 @@ use Rattle.stl_decl.specs.Steps.{end_fault}
 use Rattle.stl_decl.specs.Faults.{told}
 use Rattle.block_loader.specs.Blocks.{blocks_turn, blocks_of, block_from, items_of}
 use Rattle.block_loader.specs.Sound.{IsSoundBlock}
-use Rattle.block_loader.proofs.Repeat.{ends, goes_on, fails, runs_out, fails_with}
+use Rattle.stl_decl.proofs.Repeat.{ends, goes_on, fails, runs_out}
+use Rattle.block_loader.proofs.Repeat.{fails_with}
 use Rattle.block_loader.proofs.Reading.{blocks_ends, blocks_goes, blocks_fails}
 use Rattle.block_loader.proofs.blocks.blocks_of.Goals as goal
 

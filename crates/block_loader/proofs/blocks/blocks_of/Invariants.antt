@@ -2,7 +2,7 @@ use Rattle.std.proofs.Common.{◌≡◌, ◌≤◌, ◌-◌, ◌+◌, length}
 use Rattle.std.specs.Prelude.{All}
 use Rattle.stl_decl.specs.Steps.{end_fault}
 use Rattle.stl_decl.specs.Faults.{told}
-use Rattle.block_loader.specs.Told.{repeated}
+use Rattle.stl_decl.specs.Repeat.{repeated}
 use Rattle.block_loader.specs.Blocks.{blocks_turn, blocks_of}
 use Rattle.block_loader.specs.Sound.{IsSoundBlock}
 use Rattle.block_loader.proofs.blocks.blocks_of.Given as goal

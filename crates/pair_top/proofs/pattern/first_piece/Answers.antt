@@ -1,6 +1,6 @@
 -- The first piece of a pattern.
 use Rattle.std.proofs.Common.{◌≡◌, ◌∙◌, ap, Some, None, rules}
-use Rattle.pair_top.specs.Fields.{split_at}
+use Rattle.plant_script.specs.Fields.{split_at}
 use Rattle.pair_top.proofs.Patterns.{pieces_by, pieces_split, split_shorter}
 use Rattle.pair_top.proofs.pattern.first_piece.Goals as goal
 

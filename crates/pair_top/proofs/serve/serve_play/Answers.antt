@@ -22,4 +22,5 @@ returns-in-Err-clause-due g c =
     rw c.refused.ensures.fault
     (gives_what_is_due (manner_in c.args.visits) _ _ _ account c.args.a.now c.args.b.now (Some c.in-Err.fault)
     (refused (manner_in c.args.visits) _ _ _ account c.args.a.now c.args.b.now c.in-Err.fault c.in-Err.ensures.refused
-    (record { unplayed = record { entries = c.refused.ensures.entries; shown = c.refused.ensures.shown; ended = c.refused.ensures.ended }; bytes = refl; faults = refl })))
+    (record { unplayed = record { entries = c.refused.ensures.entries; shown = c.refused.ensures.shown; ended = c.refused.ensures.ended }; bytes = refl; faults = refl })
+    (record { first = c.requires.a; second = c.requires.b })))

@@ -15,10 +15,10 @@ rebased (Completes note (Goes memory place)) c c' since at moment e = e
 rebased (Completes note (Calls memory place frame)) c c' since at moment e = e
 
 pub returns-clause-stands : goal.returns-clause-stands
-returns-clause-stands c program given at stands =
+returns-clause-stands c program given at dated stands =
     let here = config_of c.args.self.now in
     let p : c.args.self.now.waits ≡ Some c.in-Some.request = cc in
-    stands_take program here (config_of c.react.new.self) c.in-Some.request c.args.answer.now given c.args.moment at
+    stands_take program here (config_of c.react.new.self) c.in-Some.request c.args.answer.now given c.args.moment at dated
     (subst (λ o. IfSome o (AsksAt here)) p c.requires.valid.waits)
     (subst (λ o. IsTaken o c.args.answer.now) p c.requires.fits)
     (rebased (answered here.program here.memory here.place c.in-Some.request.ask c.args.answer.now) here (config_of c.react.new.self) 0 c.args.moment c.args.moment c.react.ensures.reacts)

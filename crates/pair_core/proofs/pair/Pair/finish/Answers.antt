@@ -25,7 +25,7 @@ returns-clause-sides c = λ side sub at_own.
     let good = subst (λ (x : Game). Good x.setup x.world) c.self.view_is c.self.invariant.1 in
     let told : c.unwrap_or.result ≡ ended_by g.setup g.world =
     c.unwrap_or.ensures ∙ (ap (λ o. unwrap_or o Spent) c.ended-ended.ensures ∙ ap (λ (x : Game). ended_by x.setup x.world) c.self.view_is) in
-    subst (λ (e : Ended). IsSideOf g.setup.program g.setup.plan g.setup.solo g.world.log.entries e side sub) (sym told) (side_of g.setup g.world side sub good at_own)
+    subst (λ (e : Ended). IsSideOf g.setup.program g.setup.plan g.setup.solo g.world.log.entries g.world.log.shown e side sub) (sym told) (side_of g.setup g.world side sub good at_own)
 
 pub returns-clause-last : goal.returns-clause-last
 returns-clause-last c = λ tail side sub run at_own.

@@ -4,9 +4,8 @@ use Rattle.pair_core.specs.Sides.{standing}
 use Rattle.pair_core.specs.CutsKept.{IsCutsAt}
 use Rattle.pair_core.specs.Monitor.{watch_of}
 use Rattle.pair_core.specs.World.{Setup, shown_past, first_world}
-use Rattle.pair_core.specs.Good.{Good}
 use Rattle.pair_core.specs.Progress.{IsAlone}
-use Rattle.pair_core.proofs.Visits.{good_first}
+use Rattle.pair_core.proofs.Visits.{good_begun}
 use Rattle.pair_core.proofs.Progress.{alone_first}
 use Rattle.pair_core.proofs.pair.Pair.new.Goals as goal
 
@@ -27,10 +26,15 @@ invariant_of-result c =
         room = ap (λ l. l.room) c.in_ok-log.ensures ∙ c.end-end.ensures.value;
         shown_room = ap (λ l. l.room) c.in_ok-shown.ensures ∙ ap (λ n. 2 * n) c.end-end.ensures.value;
       },
-      subst (λ es. Good setup (record { log = record { entries = es; shown = c.in_ok-shown.shown.list; marked = 0 }; parts = (first_world c.args.solo).parts })) (sym none)
-          (subst (λ xs. Good setup (record { log = record { entries = []; shown = xs; marked = 0 }; parts = (first_world c.args.solo).parts })) (sym unshown)
-          (good_first setup c.end-end.ensures.form)),
+      good_begun setup c.in_ok-log.log.entries c.in_ok-shown.shown.list c.end-end.ensures.form none unshown,
     )
+
+pub returns-clause-good : goal.returns-clause-good
+returns-clause-good c =
+    let none : c.in_ok-log.log.entries ≡ [] = ap (λ l. l.entries) c.in_ok-log.ensures in
+    let unshown : c.in_ok-shown.shown.list ≡ [] = ap (λ l. l.list) c.in_ok-shown.ensures in
+    let setup : Setup = record { program = c.in_ok-program.program; plan = c.args.script; solo = c.args.solo } in
+    good_begun setup c.in_ok-log.log.entries c.in_ok-shown.shown.list c.end-end.ensures.form none unshown
 
 pub returns-clause-alone : goal.returns-clause-alone
 returns-clause-alone c = λ alone.

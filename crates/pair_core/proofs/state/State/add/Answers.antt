@@ -1,4 +1,4 @@
-use Rattle.std.proofs.Common.{[], ◌∷◌, length, length-append, None, arith, ap, sym, subst, ◌∙◌}
+use Rattle.std.proofs.Common.{[], ◌∷◌, length, length-append, arith, ap, sym, subst, ◌∙◌}
 use Rattle.pair_core.specs.CutsKept.{IsCutsAt}
 use Rattle.pair_core.specs.Sides.{first_standing, after_answer}
 use Rattle.pair_core.proofs.Advances.{goes_on}

@@ -1,11 +1,12 @@
-use Rattle.std.proofs.Common.{◌≡◌, ◌∙◌, ◌++◌, ◌∷◌, [], length, refl, sym, ap}
+use Rattle.std.proofs.Common.{◌≡◌, ◌∙◌, ◌++◌, ◌∷◌, [], true, length, refl, sym, ap, subst}
 use Rattle.std.proofs.lemmas.List.{length-map}
 use Rattle.s7_base.specs.declared.entry.Entry.{Entry}
+use Rattle.mc_machine.specs.Meaning.{is_dated}
 use Rattle.pair_core.specs.Played.{answers_of}
 use Rattle.pair_core.specs.World.{part_in, standing_in}
 use Rattle.pair_core.specs.Kept.{setup_of, log_of}
 use Rattle.pair_core.specs.Monitor.{watch_of}
-use Rattle.pair_core.proofs.Answers.{lawful_is, lawful_takes}
+use Rattle.pair_core.proofs.Answers.{lawful_is, lawful_takes, lawful_dated}
 use Rattle.pair_core.proofs.Opens.{going_at, open_room}
 use Rattle.pair_core.proofs.Taking.{can_ask_at, can_take, stands_all, take_added, took, put_added}
 use Rattle.pair_core.proofs.state.State.append.Goals as goal
@@ -45,6 +46,10 @@ returns-clause-at c =
     let count : length es ≡ length (answers_of es) = sym (length-map es (λ (x : Entry). x.answer)) in
     let stands = c.ask-request.ensures.stands self.program (answers_of es) (stands_all self.program own es c.args.sub.now c.requires.at alive here) in
     let own_is : c.get-own.result ≡ own = c.get-own.ensures ∙ ap (λ w. part_in w.parts c.args.side) world in
+    let from : c.from.result ≡ length es = c.from.ensures ∙ c.len-moment.ensures in
+    let st = standing_in (setup_of self) (log_of self) in
+    let watch = watch_of es in
+    let dated = lawful_dated self.script st watch (length es) e.request.ask e.answer (lawful_is self.script st watch (length es) e.request.ask e.answer c.answer-answer.ensures.answer) in
     put_added self.program c.add.new.self.program self.parts c.add.new.self.parts c.put.new.self c.args.side c.get-own.result c.len-moment.result es c.add.new.self.log.entries e c.take.new.self
     (ap (λ p. p.program) c.add.ensures.setup ∙ ap (λ p. p.program) c.answer-answer.ensures.setup)
     (ap (λ l. l.entries) c.add.ensures.log ∙ ap (λ w. w.log.entries ++ e ∷ []) world)
@@ -55,4 +60,4 @@ returns-clause-at c =
     (took self.program own es (es ++ e ∷ []) e c.ask-request.new.self c.take.new.self c.ask-request.result alive c.requires.can.1
     (c.ask-request.ensures.lives ∙ c.requires.at.lives) c.ask-request.ensures.waits refl
     (take_added es own.place e here) c.take.ensures.lives c.take.ensures.going
-    (c.take.ensures.stands self.program (answers_of es) (c.from.ensures ∙ c.len-moment.ensures ∙ count) stands))
+    (c.take.ensures.stands self.program (answers_of es) (from ∙ count) (subst (λ n. is_dated n e.answer ≡ true) (sym from) dated) stands))

@@ -1,0 +1,7 @@
+//! Tests of the shared types and of the record.
+#![tactic(auto)]
+
+#[cfg(test)]
+mod blocks;
+#[cfg(test)]
+mod records;

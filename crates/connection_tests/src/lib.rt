@@ -1,0 +1,5 @@
+//! Tests of the fault-tolerant connection.
+#![tactic(auto)]
+
+#[cfg(test)]
+mod connections;

@@ -1,0 +1,11 @@
+pub mod DigitLaws
+pub mod LineLaws
+pub mod NumberLaws
+pub mod ReadingLaws
+pub mod SoundLaws
+pub mod PlayingLaws
+pub mod OutcomeLaws
+pub mod RunLaws
+pub mod WordLaws
+pub mod SpellLaws
+pub mod FileLaws

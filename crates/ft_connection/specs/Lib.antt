@@ -1,0 +1,14 @@
+pub mod SenderRule
+pub mod ReceiverRule
+pub mod Words
+pub mod LineForm
+pub mod FileReading
+pub mod FileView
+pub mod World
+pub mod EventText
+pub mod Sound
+pub mod Playing
+pub mod Outcome
+pub mod WireView
+pub mod ConnectionView
+pub mod FileText

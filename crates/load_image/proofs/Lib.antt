@@ -1,0 +1,4 @@
+pub mod Fields
+pub mod Blocks
+pub mod Whole
+pub mod Steps

@@ -1,0 +1,11 @@
+//! The load image: the blocks of a program as bytes, as the running side sends them to the returning one.
+#![tactic(auto)]
+
+mod reading;
+mod writing;
+
+pub use reading::{an_image_has_one_program, decode, statement_at};
+pub use writing::encode;
+
+#[cfg(test)]
+mod tests;

@@ -1,0 +1,5 @@
+//! Tests of the pair, over whole plays.
+#![tactic(auto)]
+
+#[cfg(test)]
+mod pairs;

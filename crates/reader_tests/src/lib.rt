@@ -1,0 +1,9 @@
+//! Tests of the readers of a source, by tables.
+#![tactic(auto)]
+
+#[cfg(test)]
+mod declarations;
+#[cfg(test)]
+mod sources;
+#[cfg(test)]
+mod statements;

@@ -1,0 +1,8 @@
+-- What is perhaps there, one step after another.
+use Rattle.std.specs.Prelude.{Option, Some, None}
+
+-- the next step, where the first gives something
+infixl 10 ◌>>=◌
+abbrev pub ◌>>=◌ : {A B : Type 0} → Option A → (A → Option B) → Option B
+None >>= f = None
+(Some x) >>= f = f x
