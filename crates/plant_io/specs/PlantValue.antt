@@ -40,7 +40,7 @@ abbrev pub byte_at : Plan → Module → Side → ℕ → ℕ → ℕ
 byte_at plan m side moment i = if nat_lt i m.len then byte_of plan m side (m.at_byte + i) moment else 0
 
 -- the bytes of a module on a side, with zeros up to 64
-abbrev pub side_bytes : Plan → Module → Side → ℕ → List ℕ
+unfoldable pub side_bytes : Plan → Module → Side → ℕ → List ℕ
 side_bytes plan m side moment = map (byte_at plan m side moment) (range_with_len 0 64)
 
 -- a module has its bytes among the 1,024 of its direction
