@@ -1,4 +1,5 @@
 -- Bytes that are the module's each are all of them.
+use Rattle.std.proofs.Common.{arith}
 use Rattle.std.proofs.lemmas.List.FromFn.{fill_by_all}
 use Rattle.plant_io.specs.PlantValue.{byte_at, side_bytes}
 use Rattle.plant_io.proofs.value.side_bytes.Goals as goal
