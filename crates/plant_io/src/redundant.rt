@@ -121,6 +121,11 @@ impl Redundant {
         ensures stepped { IfSome (slice_get script.now.modules index) (λ m. self.new ≡ step_of script.now m (record { a_runs = a_runs; b_runs = b_runs; master = master }) k self.old) }
         ensures due { IfSome (slice_get script.now.modules index) (λ m. result ≡ is_due_of m.kind self.old self.new) }
         ensures moments { self.new.run ≤ k + 1 }
+
+        // Over all moments, with the standing at each of them.
+        ensures whole { (m : Module) (standing : ℕ → Standing) → slice_get script.now.modules index ≡ Some m
+            → standing k ≡ record { a_runs = a_runs; b_runs = b_runs; master = master }
+            → self.old ≡ pair_before script.now m standing k → self.new ≡ pair_before script.now m standing (k + 1) }
     {
         let m = script.modules()[index as usize];
         let ModuleKind::Redundant(time) = m.kind else {
