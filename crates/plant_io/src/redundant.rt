@@ -49,7 +49,7 @@ impl Redundant {
 
     /// A moment at which the sides read these bytes. Returns whether their difference has lasted just as long as the
     /// discrepancy time.
-    fn observe(
+    pub(crate) fn observe(
         &mut self,
         time: u16,
         a: [u8; MODULE_BYTES],

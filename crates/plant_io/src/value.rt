@@ -9,7 +9,7 @@ use s7_base::Side;
 pub(crate) const MODULE_BYTES: usize = 64;
 
 /// The side that the INPUT lines of a module name.
-fn side_named(kind: ModuleKind, side: Side) -> Option<Side>
+pub(crate) fn side_named(kind: ModuleKind, side: Side) -> Option<Side>
     ensures { result ≡ side_named kind side }
 {
     match kind {
@@ -30,17 +30,24 @@ pub fn value_at(script: &Script, index: u32, side: Side, at_byte: u16, k: u64) -
         .unwrap_or(0)
 }
 
+/// Whether a module of this kind is reached, where these sides run.
+pub(crate) fn is_reachable(kind: ModuleKind, a_runs: bool, b_runs: bool) -> bool
+    ensures { result ≡ is_reachable kind a_runs b_runs }
+{
+    match kind {
+        ModuleKind::OneSided(Side::A) => a_runs,
+        ModuleKind::OneSided(Side::B) => b_runs,
+        ModuleKind::Switched | ModuleKind::Redundant(_) => true,
+    }
+}
+
 /// Returns whether a module is reached, where these sides run: one of a side only while it runs, every other always.
 /// `index` is the place of the module in the script, counted from 0.
 pub fn reachable(script: &Script, index: u32, a_runs: bool, b_runs: bool) -> bool
     requires { HasModule script.now index }
     ensures { IfSome (slice_get script.now.modules index) (λ m. result ≡ is_reachable m.kind a_runs b_runs) }
 {
-    match script.modules()[index as usize].kind {
-        ModuleKind::OneSided(Side::A) => a_runs,
-        ModuleKind::OneSided(Side::B) => b_runs,
-        ModuleKind::Switched | ModuleKind::Redundant(_) => true,
-    }
+    is_reachable(script.modules()[index as usize].kind, a_runs, b_runs)
 }
 
 /// Byte i of a module on a side at moment k, and 0 past its end.

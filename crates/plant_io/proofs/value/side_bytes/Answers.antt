@@ -8,4 +8,4 @@ pub returns : goal.returns
 unfolding side_bytes
 returns c =
     fill_by_all (byte_at c.args.script.now c.args.m.now c.args.side c.args.k) c.loop-i.bytes 64 0 c.loop-i.invariant.0
-        (λ j below. c.loop-i.invariant.1 j (omega arith))
+    (λ j below. c.loop-i.invariant.1 j (omega arith))
