@@ -60,7 +60,7 @@ fn twenty_moments_of_a_difference_make_ob70_due(rt: HostRuntime) {
     // side A has the byte 1 from moment 30 on, side B from 49 or from 50 on; the time is 20 ms
     for (from, late) in [(49, false), (50, true)] {
         let mut pair = Redundant::new();
-        for k in 0..52 {
+        for k in 0u64..52 {
             let bytes = (u8::from(k >= 30), u8::from(k >= from));
             let expected = (late && k == 49, u8::from(k >= 49));
             assert_eq!(rt;
