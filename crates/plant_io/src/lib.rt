@@ -2,9 +2,11 @@
 //! one module make of it.
 #![tactic(auto)]
 
+mod law;
 mod redundant;
 mod value;
 
+pub use law::lasting_difference;
 pub use redundant::Redundant;
 pub use value::{reachable, value_at};
 
