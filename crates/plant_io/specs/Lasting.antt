@@ -1,5 +1,5 @@
 -- A difference between the sides that lasts for some moments in a row.
-use Rattle.std.specs.Prelude.{◌≡◌, ℕ, ◌+◌, ◌<◌, ◌≤◌, ◌==◌, true, false}
+use Rattle.std.specs.Prelude.{◌≡◌, ℕ, zero, suc, ◌+◌, ◌<◌, ◌≤◌, ◌==◌, true, false}
 use Rattle.std.specs.Str.{bytes_eq}
 use Rattle.s7_base.specs.declared.entry.Side.TheVariants.{A, B}
 use Rattle.plant_script.specs.declared.plan.Module.{Module}
@@ -13,9 +13,14 @@ pub record Differ (plan : Plan) (m : Module) (standing : ℕ → Standing) (mome
   pub b_runs : (standing moment).b_runs ≡ true
   pub unequal : bytes_eq (side_bytes plan m A moment) (side_bytes plan m B moment) ≡ false
 
+-- they did not at the moment before, if there is one
+abbrev pub BeginsAt : Plan → Module → (ℕ → Standing) → ℕ → Type 0
+BeginsAt plan m standing zero = Unit {0}
+BeginsAt plan m standing (suc before) = Differ plan m standing before → ⊥
+
 -- they differ for this many moments in a row, and did not before these
 pub record DifferFor (plan : Plan) (m : Module) (standing : ℕ → Standing) (from count : ℕ) : Type 0 where
-  pub begins : (pair_before plan m standing from).run ≡ 0
+  pub begins : BeginsAt plan m standing from
   pub each : (j : ℕ) → from ≤ j → j < from + count → Differ plan m standing j
 
 -- for a shorter time than the discrepancy time the pair keeps its value
