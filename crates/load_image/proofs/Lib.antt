@@ -1,4 +1,5 @@
 pub mod Fields
 pub mod Blocks
+pub mod Places
 pub mod Whole
 pub mod Steps

@@ -4,7 +4,7 @@
 mod reading;
 mod writing;
 
-pub use reading::{an_image_has_one_program, decode, statement_at};
+pub use reading::{a_statement_lies_at_its_place, an_image_has_one_program, decode, statement_at};
 pub use writing::encode;
 
 #[cfg(test)]

@@ -1,9 +1,10 @@
 //! From bytes to blocks.
-ghost use Rattle.std.specs.Prelude.{◌≡◌, ◌↔◌, ◌+◌, ◌*◌, ◌/◌, ◌^◌, ◌<◌, ◌≤◌, ◌++◌, length, take, drop, List, ℕ, OnOk, IfOk, IfSome, IfNone, IsTrue, Option, Some, None};
+ghost use Rattle.std.specs.Prelude.{◌≡◌, ◌↔◌, ◌+◌, ◌*◌, ◌/◌, ◌^◌, ◌<◌, ◌≤◌, ◌++◌, length, take, drop, slice_index_or, List, ℕ, OnOk, IfOk, IfSome, IfNone, IsTrue, Option, Some, None};
 ghost use Rattle.s7_base.specs.declared.statement.Statement.{Statement};
-ghost use Rattle.s7_base.specs.Blocks.{Program};
+ghost use Rattle.s7_base.specs.Blocks.{Code, Program};
 ghost use Rattle.s7_base.specs.Limits.{IsWellFormed};
 ghost use Rattle.load_image.specs.Image.{statement_bytes, IsStoredStatement, IsImage};
+ghost use Rattle.load_image.specs.Places.{statement_place};
 ghost use Rattle.load_image.specs.Reading.{word_at, double_word_at, first_statement, statements_in, code_kind, body_length, code_here, data_here, codes_in, data_in};
 
 use crate::writing::encode;
@@ -240,4 +241,9 @@ pub fn decode(alloc: Global, bytes: &[u8]) -> Result<Option<Blocks>, NoMemory>
 /// Bytes are the image of one program only: so what is encoded is decoded again.
 pub fn an_image_has_one_program()
     ensures { (p q : Program) (bytes : List ℕ) → IsImage p bytes → IsImage q bytes → p ≡ q }
+{}
+
+/// In an image the statement of a block lies at its place, where `statement_at` reads it.
+pub fn a_statement_lies_at_its_place()
+    ensures { (p : Program) (bytes : List ℕ) (index number : ℕ) (code : Code) (s : Statement) → IsImage p bytes → index < length p.codes → slice_index_or p.codes index code ≡ code → number < length code.statements → slice_index_or code.statements number s ≡ s → take 12 (drop (statement_place p index number) bytes) ≡ statement_bytes s }
 {}
