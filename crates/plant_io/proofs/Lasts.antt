@@ -1,5 +1,5 @@
 -- How the state goes on while the sides differ.
-use Rattle.std.proofs.Common.{◌≡◌, ◌∙◌, ℕ, zero, suc, ◌+◌, ◌<◌, ◌≤◌, Bool, true, false, List, refl, sym, ap, subst, arith, add-one}
+use Rattle.std.proofs.Common.{◌≡◌, ◌∙◌, ℕ, zero, suc, ◌+◌, ◌<◌, ◌≤◌, Bool, true, false, List, refl, ap, arith, add-one}
 use Rattle.std.specs.Prelude.{◌==◌, ◌&&◌, not, nat_lt, if◌then◌else◌}
 use Rattle.std.specs.Str.{bytes_eq}
 use Rattle.std.proofs.lemmas.Bool.Decides.{nat_tests}
@@ -7,8 +7,8 @@ use Rattle.s7_base.specs.declared.entry.Side.TheVariants.{A, B}
 use Rattle.plant_script.specs.declared.plan.Module.{Module}
 use Rattle.plant_script.specs.Plan.{Plan}
 use Rattle.plant_io.specs.PlantValue.{side_bytes}
-use Rattle.plant_io.specs.PairValue.{PairState, Standing, of_side, time_of, is_due, is_due_of, differing, pair_step, pair_before}
-use Rattle.plant_io.specs.Lasting.{Differ, BeginsAt, DifferFor, KeepsValue, TakesMaster, IsDueOnce}
+use Rattle.plant_io.specs.PairValue.{PairState, Standing, time_of, differing, pair_step, pair_before}
+use Rattle.plant_io.specs.Lasting.{Differ, BeginsAt, KeepsValue, TakesMaster, IsDueOnce}
 
 one_step : (time : ℕ) (a b : List ℕ) (standing : Standing) (before : PairState) → standing.a_runs ≡ true → standing.b_runs ≡ true
     → bytes_eq a b ≡ false → pair_step time a b standing before ≡ differing time a b standing.master before
@@ -31,7 +31,7 @@ starts : (plan : Plan) (m : Module) (standing : ℕ → Standing) (from : ℕ) �
 starts plan m standing zero begins = refl
 starts plan m standing (suc j) begins =
     rests (standing j).a_runs (standing j).b_runs (bytes_eq (side_bytes plan m A j) (side_bytes plan m B j)) _ _ _ _ refl refl refl
-        (λ a_runs b_runs unequal. begins (record { a_runs = a_runs; b_runs = b_runs; unequal = unequal }))
+    (λ a_runs b_runs unequal. begins (record { a_runs = a_runs; b_runs = b_runs; unequal = unequal }))
 
 counts : (plan : Plan) (m : Module) (standing : ℕ → Standing) (from n k : ℕ) → k ≡ from + n → (pair_before plan m standing from).run ≡ 0
     → ((j : ℕ) → from ≤ j → j < k → Differ plan m standing j) → (pair_before plan m standing k).run ≡ n
@@ -49,7 +49,7 @@ kept plan m standing from (suc n) (suc k) is begins each short =
     let counted = counts plan m standing from n k (omega (arith, is)) begins (λ j low high. each j low (omega (arith, high))) in
     let before = kept plan m standing from n k (omega (arith, is)) begins (λ j low high. each j low (omega (arith, high))) (omega (arith, short)) in
     ap (λ s. s.bytes) (next plan m standing k (each k (omega (arith, is)) (omega arith)))
-        ∙ by_time (nat_lt ((pair_before plan m standing k).run + 1) (time_of m.kind)) (pair_before plan m standing k).bytes _ (grind (arith, nat_tests, counted, short)) ∙ before
+    ∙ by_time (nat_lt ((pair_before plan m standing k).run + 1) (time_of m.kind)) (pair_before plan m standing k).bytes _ (grind (arith, nat_tests, counted, short)) ∙ before
   where
     by_time : (c : Bool) (x y : List ℕ) → c ≡ true → (if c then x else y) ≡ x
     by_time c x y is_true = rw is_true refl
@@ -65,8 +65,8 @@ takes_master plan m standing from count d long =
     let k = from + count in
     let counted = counts plan m standing from count k refl (starts plan m standing from d.begins) (λ j low high. d.each j low (omega (arith, high))) in
     ap (λ j. (pair_before plan m standing j).bytes) (add-one k)
-        ∙ ap (λ s. s.bytes) (next plan m standing k (d.each k (omega arith) (omega arith)))
-        ∙ by_time (nat_lt ((pair_before plan m standing k).run + 1) (time_of m.kind)) _ _ (grind (arith, nat_tests, counted, long))
+    ∙ ap (λ s. s.bytes) (next plan m standing k (d.each k (omega arith) (omega arith)))
+    ∙ by_time (nat_lt ((pair_before plan m standing k).run + 1) (time_of m.kind)) _ _ (grind (arith, nat_tests, counted, long))
 
 grows : (n : ℕ) → nat_lt n (n + 1) ≡ true
 grows n = grind (arith, nat_tests)
@@ -77,5 +77,5 @@ due_by time n x y x_is y_is = rw x_is (rw y_is (rw (grows n) refl))
 pub is_due_once : (plan : Plan) (m : Module) (standing : ℕ → Standing) (from count : ℕ) → IsDueOnce plan m standing from count
 is_due_once plan m standing from count d =
     due_by (time_of m.kind) count _ _
-        (counts plan m standing from count (from + count) refl (starts plan m standing from d.begins) (λ j low high. d.each j low (omega (arith, high))))
-        (counts plan m standing from (count + 1) (from + count + 1) (omega arith) (starts plan m standing from d.begins) (λ j low high. d.each j low (omega (arith, high))))
+    (counts plan m standing from count (from + count) refl (starts plan m standing from d.begins) (λ j low high. d.each j low (omega (arith, high))))
+    (counts plan m standing from (count + 1) (from + count + 1) (omega arith) (starts plan m standing from d.begins) (λ j low high. d.each j low (omega (arith, high))))

@@ -1,5 +1,5 @@
 -- A step at the moment k leads from the state before k to the one before k + 1.
-use Rattle.std.proofs.Common.{◌≡◌, ℕ, ◌+◌, suc, Option, Some, sym, ap, ◌∙◌, add-one}
+use Rattle.std.proofs.Common.{◌≡◌, ℕ, ◌+◌, Option, Some, sym, ap, ◌∙◌, add-one}
 use Rattle.std.specs.Prelude.{IfSome}
 use Rattle.plant_script.specs.declared.plan.Module.{Module}
 use Rattle.plant_script.specs.Plan.{Plan}

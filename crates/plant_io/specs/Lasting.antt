@@ -32,7 +32,7 @@ KeepsValue plan m standing from count = DifferFor plan m standing from count →
 abbrev pub TakesMaster : Plan → Module → (ℕ → Standing) → ℕ → ℕ → Type 0
 TakesMaster plan m standing from count = DifferFor plan m standing from (count + 1) → time_of m.kind ≤ count + 1
     → (pair_before plan m standing (from + count + 1)).bytes
-        ≡ of_side (standing (from + count)).master (side_bytes plan m A (from + count)) (side_bytes plan m B (from + count))
+    ≡ of_side (standing (from + count)).master (side_bytes plan m A (from + count)) (side_bytes plan m B (from + count))
 
 -- OB70 is due at the one moment at which the difference has lasted as long as the discrepancy time
 abbrev pub IsDueOnce : Plan → Module → (ℕ → Standing) → ℕ → ℕ → Type 0

@@ -1,5 +1,5 @@
 //! A module of inputs that both sides have.
-ghost use Rattle.std.specs.Prelude.{◌≡◌, ℕ, ◌+◌, ◌-◌, ◌^◌, ◌<◌, ◌≤◌, ◌||◌, Some, slice_get, slice_index, IsTrue, IfSome};
+ghost use Rattle.std.specs.Prelude.{◌≡◌, ℕ, ◌+◌, ◌-◌, ◌^◌, ◌<◌, ◌≤◌, Some, slice_get, slice_index, IsTrue, IfSome};
 ghost use Rattle.plant_io.specs.PairValue.{PairState, Standing, fresh, pair_step, is_due, step_of, is_due_of, pair_before, master_runs, IsRedundantInput};
 ghost use Rattle.plant_io.specs.PlantValue.{side_bytes, IsPlaced};
 ghost use Rattle.plant_script.specs.declared.plan.Module.{Module};

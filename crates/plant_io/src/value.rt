@@ -1,5 +1,5 @@
 //! The values of a module's bytes.
-ghost use Rattle.std.specs.Prelude.{◌≡◌, ◌<◌, length, slice_get, unwrap_or, IfSome};
+ghost use Rattle.std.specs.Prelude.{◌≡◌, slice_get, IfSome};
 ghost use Rattle.plant_io.specs.PlantValue.{HasModule, HoldsByte, side_named, byte_of, is_reachable, byte_at, side_bytes, IsPlaced};
 
 use plant_script::{Module, ModuleKind, Script};
