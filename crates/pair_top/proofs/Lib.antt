@@ -1,6 +1,5 @@
 pub mod Due
 pub mod Later
-pub mod LoadsDue
 pub mod Patterns
 pub mod Pieces
 pub mod PlayedOut

@@ -16,6 +16,3 @@ pub use gates::{Gate, NoGate};
 pub use reading::LIMIT;
 pub use serve::{s7h_top, serve_alone};
 pub use stl_lex::LoadFault;
-
-#[cfg(test)]
-mod tests;

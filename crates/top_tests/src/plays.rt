@@ -1,9 +1,8 @@
 ghost use Rattle.std.specs.Prelude.{◌≡◌, length, IfOk};
 
-use crate::pattern::is_pattern;
-use crate::*;
 use pair_core::Ended;
 use pair_io::{MemFiles, MemSink};
+use pair_top::*;
 use plant_script::ScriptFault;
 use std::alloc::{AllocError, Global};
 use std::test::Fail;
@@ -296,7 +295,7 @@ fn turns_are_written(rt: HostRuntime) -> Result<(), Fail> {
     Ok(())
 }
 
-/// Patterns, and words that are none.
+/// Patterns, and arguments that are none.
 const PATTERNS: [(&[u8], bool); 21] = [
     (b"a", true),
     (b"b,a", true),
@@ -323,8 +322,23 @@ const PATTERNS: [(&[u8], bool); 21] = [
 
 #[test]
 fn patterns_are_read(rt: HostRuntime) -> Result<(), Fail> {
+    let alloc = rt.alloc();
+    let mut files = files_of(alloc, SOURCE, SCRIPT, None)?;
     for (word, is_one) in PATTERNS {
-        assert_eq!(rt; is_pattern(word), is_one);
+        let mut sink = MemSink::new(alloc, 0, Vec::new(alloc))?;
+        // no file has the name: where the arguments are a command, that is what is found
+        let left = served(
+            alloc,
+            &[b"turns", b"no", b"no", word],
+            &mut files,
+            &mut sink,
+        )?;
+        let fault = if is_one {
+            Fault::FileFault { which: 0 }
+        } else {
+            Fault::Usage
+        };
+        assert_eq!(rt; left.outcome.fault, Some(fault));
     }
     Ok(())
 }
