@@ -103,8 +103,8 @@ impl Redundant {
     }
 
     /// Takes moment k, in milliseconds: the values of both sides, of which these run, by the rule of redundant inputs in
-    /// `docs/plant.md`. Returns true exactly where OB70 becomes due. `index` is the place of the module in the script, counted from 0; it is to be the same at each call,
-    /// and k is 0 at the first and one more at each later one.
+    /// `docs/plant.md`. Returns true exactly where OB70 becomes due. `index` is the place of the module in the script,
+    /// counted from 0; it is to be the same at each call, and k is 0 at the first and one more at each later one.
     pub fn step(
         &mut self,
         script: &Script,

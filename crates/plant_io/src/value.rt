@@ -19,7 +19,8 @@ pub(crate) fn side_named(kind: ModuleKind, side: Side) -> Option<Side>
 }
 
 /// Returns the value of an input byte of a module on a side at moment k, in milliseconds: that of its last INPUT
-/// line not later than k, else 0 (the plant rule in `docs/plant.md`). `index` is the place of the module in the script, counted from 0.
+/// line not later than k, else 0 (the plant rule in `docs/plant.md`). `index` is the place of the module in the
+/// script, counted from 0.
 pub fn value_at(script: &Script, index: u32, side: Side, at_byte: u16, k: u64) -> u8
     requires { HoldsByte script.now index at_byte }
     ensures { IfSome (slice_get script.now.modules index) (λ m. result ≡ byte_of script.now m side at_byte k) }
@@ -42,8 +43,7 @@ pub(crate) fn is_reachable(kind: ModuleKind, a_runs: bool, b_runs: bool) -> bool
 }
 
 /// Returns whether a module is reached, where these sides run: one of a side only while it runs, every other always
-/// (`docs/plant.md`).
-/// `index` is the place of the module in the script, counted from 0.
+/// (`docs/plant.md`). `index` is the place of the module in the script, counted from 0.
 pub fn reachable(script: &Script, index: u32, a_runs: bool, b_runs: bool) -> bool
     requires { HasModule script.now index }
     ensures { IfSome (slice_get script.now.modules index) (λ m. result ≡ is_reachable m.kind a_runs b_runs) }
