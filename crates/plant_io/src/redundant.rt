@@ -1,7 +1,8 @@
 //! A module of inputs that both sides have.
 ghost use Rattle.std.specs.Prelude.{◌≡◌, ℕ, ◌+◌, ◌-◌, ◌^◌, ◌<◌, ◌≤◌, Some, slice_get, slice_index, IsTrue, IfSome};
 ghost use Rattle.plant_io.specs.PairValue.{PairState, Standing, fresh, pair_step, is_due, step_of, is_due_of, pair_before, master_runs, IsRedundantInput};
-ghost use Rattle.plant_io.specs.PlantValue.{side_bytes, IsPlaced};
+ghost use Rattle.plant_io.specs.PlantValue.{side_bytes};
+ghost use Rattle.plant_script.specs.Form.{IsModule};
 ghost use Rattle.plant_script.specs.declared.plan.Module.{Module};
 ghost use Rattle.s7_base.specs.declared.entry.Side.{Side};
 
@@ -91,7 +92,7 @@ impl Redundant {
         master: Side,
         k: u64,
     ) -> bool
-        requires placed { IsPlaced m.now }
+        requires placed { IsModule m.now }
         requires counted { self.old.run + 1 < 2 ^ 64 }
         ensures stepped { self.new ≡ pair_step time (side_bytes script.now m.now Side.A k) (side_bytes script.now m.now Side.B k) (record { a_runs = a_runs; b_runs = b_runs; master = master }) (record self.old { first = m.now.at_byte }) }
         ensures due { result ≡ is_due time self.old self.new }

@@ -1,6 +1,7 @@
 //! The values of a module's bytes.
 ghost use Rattle.std.specs.Prelude.{◌≡◌, slice_get, IfSome};
-ghost use Rattle.plant_io.specs.PlantValue.{HasModule, HoldsByte, side_named, byte_of, is_reachable, byte_at, side_bytes, IsPlaced};
+ghost use Rattle.plant_io.specs.PlantValue.{HasModule, HoldsByte, side_named, byte_of, is_reachable, byte_at, side_bytes};
+ghost use Rattle.plant_script.specs.Form.{IsModule};
 
 use plant_script::{Module, ModuleKind, Script};
 use s7_base::Side;
@@ -53,7 +54,7 @@ pub fn reachable(script: &Script, index: u32, a_runs: bool, b_runs: bool) -> boo
 
 /// Byte i of a module on a side at moment k, and 0 past its end.
 fn byte_at(script: &Script, m: &Module, side: Side, i: usize, k: u64) -> u8
-    requires { IsPlaced m.now }
+    requires { IsModule m.now }
     ensures { result ≡ byte_at script.now m.now side k i }
 {
     if i >= usize::from(m.len) {
@@ -66,7 +67,7 @@ fn byte_at(script: &Script, m: &Module, side: Side, i: usize, k: u64) -> u8
 
 /// The bytes of a module on a side at moment k, filled up with 0.
 pub(crate) fn side_bytes(script: &Script, m: &Module, side: Side, k: u64) -> [u8; MODULE_BYTES]
-    requires { IsPlaced m.now }
+    requires { IsModule m.now }
     ensures { result ≡ side_bytes script.now m.now side k }
 {
     let mut bytes = [0; MODULE_BYTES];
