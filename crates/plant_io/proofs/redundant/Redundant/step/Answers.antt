@@ -4,7 +4,7 @@ use Rattle.std.proofs.lemmas.List.Elements.{All-get_or}
 use Rattle.plant_script.specs.declared.plan.Module.{Module}
 use Rattle.plant_script.specs.declared.plan.ModuleKind.TheVariants.{Switched}
 use Rattle.plant_script.specs.Form.{IsModule}
-use Rattle.plant_io.proofs.Whole.{of_some, next_state, in_place, of_place, within}
+use Rattle.plant_io.proofs.Whole.{of_some, next_state, in_place, within}
 use Rattle.plant_io.proofs.redundant.Redundant.step.Goals as goal
 
 -- each module of a script has its bytes in range
