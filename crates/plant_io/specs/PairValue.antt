@@ -7,7 +7,7 @@ use Rattle.plant_script.specs.declared.plan.Module.{Module}
 use Rattle.plant_script.specs.declared.plan.ModuleKind.{ModuleKind}
 use Rattle.plant_script.specs.declared.plan.ModuleKind.TheVariants.{Switched, OneSided, Redundant}
 use Rattle.plant_script.specs.Plan.{Plan}
-use Rattle.plant_io.specs.PlantValue.{side_bytes, IsPlaced}
+use Rattle.plant_io.specs.PlantValue.{side_bytes}
 
 -- for how many moments in a row the sides have differed, the module's first byte, and the value that the pair takes
 pub record PairState : Type 0 where
@@ -77,4 +77,4 @@ is_redundant (Redundant time) = true
 -- a REDUNDANT module of inputs stands in this place
 abbrev pub IsRedundantInput : Plan → ℕ → Type 0
 IsRedundantInput plan index =
-    IsSomeAnd (slice_get plan.modules index) (λ m. (m.input ≡ true) × (is_redundant m.kind ≡ true) × IsPlaced m)
+    IsSomeAnd (slice_get plan.modules index) (λ m. (m.input ≡ true) × (is_redundant m.kind ≡ true))

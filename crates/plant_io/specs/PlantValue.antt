@@ -42,9 +42,3 @@ byte_at plan m side moment i = if nat_lt i m.len then byte_of plan m side (m.at_
 -- the bytes of a module on a side, with zeros up to 64
 unfoldable pub side_bytes : Plan → Module → Side → ℕ → List ℕ
 side_bytes plan m side moment = map (byte_at plan m side moment) (range_with_len 0 64)
-
--- a module has its bytes among the 1,024 of its direction
-pub record IsPlaced (m : Module) : Type 0 where
-  pub some : 1 ≤ m.len
-  pub few : m.len ≤ 64
-  pub within : m.at_byte + m.len ≤ 1024

@@ -1,7 +1,8 @@
 //! A module of inputs that both sides have.
-ghost use Rattle.std.specs.Prelude.{◌≡◌, ℕ, ◌+◌, ◌-◌, ◌^◌, ◌<◌, ◌≤◌, Some, slice_get, slice_index, IsTrue, IfSome};
-ghost use Rattle.plant_io.specs.PairValue.{PairState, Standing, fresh, pair_step, is_due, step_of, is_due_of, pair_before, master_runs, IsRedundantInput};
-ghost use Rattle.plant_io.specs.PlantValue.{side_bytes, IsPlaced};
+ghost use Rattle.std.specs.Prelude.{◌≡◌, ℕ, true, ◌+◌, ◌-◌, ◌^◌, ◌<◌, ◌≤◌, Some, slice_get, slice_index, IsTrue, IfSome};
+ghost use Rattle.plant_io.specs.PairValue.{PairState, Standing, fresh, pair_step, is_due, step_of, is_due_of, pair_before, master_runs, is_redundant, IsRedundantInput};
+ghost use Rattle.plant_io.specs.PlantValue.{side_bytes};
+ghost use Rattle.plant_script.specs.Form.{IsModule};
 ghost use Rattle.plant_script.specs.declared.plan.Module.{Module};
 ghost use Rattle.s7_base.specs.declared.entry.Side.{Side};
 
@@ -91,7 +92,7 @@ impl Redundant {
         master: Side,
         k: u64,
     ) -> bool
-        requires placed { IsPlaced m.now }
+        requires placed { IsModule m.now }
         requires counted { self.old.run + 1 < 2 ^ 64 }
         ensures stepped { self.new ≡ pair_step time (side_bytes script.now m.now Side.A k) (side_bytes script.now m.now Side.B k) (record { a_runs = a_runs; b_runs = b_runs; master = master }) (record self.old { first = m.now.at_byte }) }
         ensures due { result ≡ is_due time self.old self.new }
@@ -102,9 +103,34 @@ impl Redundant {
         self.observe(time, a, b, a_runs, b_runs, master)
     }
 
-    /// Takes moment k, in milliseconds: the values of both sides, of which these run. Returns true exactly where OB70
-    /// becomes due. `index` is the place of the module in the script, counted from 0; it is to be the same at each call,
-    /// and k is 0 at the first and one more at each later one.
+    /// Moment k of a REDUNDANT module, which may be of any script.
+    fn step_of(
+        &mut self,
+        script: &Script,
+        m: &Module,
+        a_runs: bool,
+        b_runs: bool,
+        master: Side,
+        k: u64,
+    ) -> bool
+        requires placed { IsModule m.now }
+        requires both { is_redundant m.now.kind ≡ true }
+        requires counted { self.old.run + 1 < 2 ^ 64 }
+        ensures stepped { self.new ≡ step_of script.now m.now (record { a_runs = a_runs; b_runs = b_runs; master = master }) k self.old }
+        ensures due { result ≡ is_due_of m.now.kind self.old self.new }
+        ensures counted { self.new.run ≤ self.old.run + 1 }
+        ensures whole { (standing : ℕ → Standing) → standing k ≡ record { a_runs = a_runs; b_runs = b_runs; master = master }
+            → self.old ≡ pair_before script.now m.now standing k → self.new ≡ pair_before script.now m.now standing (k + 1) }
+    {
+        let ModuleKind::Redundant(time) = m.kind else {
+            unreachable!();
+        };
+        self.read_both(script, m, time, a_runs, b_runs, master, k)
+    }
+
+    /// Takes moment k, in milliseconds: the values of both sides, of which these run, by the rule of redundant inputs in
+    /// `docs/plant.md`. Returns true exactly where OB70 becomes due. `index` is the place of the module in the script,
+    /// counted from 0; it is to be the same at each call, and k is 0 at the first and one more at each later one.
     pub fn step(
         &mut self,
         script: &Script,
@@ -128,10 +154,7 @@ impl Redundant {
             → self.old ≡ pair_before script.now m standing k → self.new ≡ pair_before script.now m standing (k + 1) }
     {
         let m = script.modules()[index as usize];
-        let ModuleKind::Redundant(time) = m.kind else {
-            unreachable!();
-        };
-        self.read_both(script, &m, time, a_runs, b_runs, master, k)
+        self.step_of(script, &m, a_runs, b_runs, master, k)
     }
 
     /// The value that the pair takes of a byte of the module, after the last `step`.
