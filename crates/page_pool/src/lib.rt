@@ -5,9 +5,5 @@ mod pool;
 
 pub use pool::{Contents, PAGE_BYTES, Page, Pool};
 
-/// Memory ran out.
-#[derive(Clone, Copy, Debug, PartialEq, Eq)]
-pub struct NoMemory;
-
 #[cfg(test)]
 mod tests;

@@ -2,9 +2,8 @@
 ghost use Rattle.std.specs.Prelude.{◌≡◌, ℕ, ◌+◌, ◌≤◌, true, false, [], length, ◌↔◌, IsNone, IfNone, IfSome, OnSome, IfOk, Some, None};
 ghost use Rattle.page_pool.specs.Region.{Region, contents_of, bytes_of, is_dirty, zeros, overwritten, free_count, Holds, ChangesOnly};
 
-use crate::NoMemory;
 use slab::Slab;
-use std::alloc::Global;
+use std::alloc::{AllocError, Global};
 use std::marker::Model;
 
 /// The number of bytes of a page.
@@ -52,13 +51,13 @@ impl Model for Pool {
 
 impl Pool {
     /// Takes a region of `pages` pages, all of them free.
-    pub fn new(alloc: Global, pages: u32) -> Result<Pool, NoMemory>
+    pub fn new(alloc: Global, pages: u32) -> Result<Pool, AllocError>
         ensures { IfOk result (λ pool. pool ≡ record { held = []; size = pages }) }
     {
-        match Slab::with_capacity(alloc, pages as usize) {
-            Ok(held) => Ok(Pool { held, size: pages }),
-            Err(_) => Err(NoMemory),
-        }
+        Ok(Pool {
+            held: Slab::with_capacity(alloc, pages as usize)?,
+            size: pages,
+        })
     }
 
     /// Takes a free page: its bytes are 0 and its mark is not set. None exactly where no page is free.
