@@ -7,15 +7,15 @@ use Rattle.s7_base.specs.declared.blocks.BlockRef.{BlockRef}
 use Rattle.s7_base.specs.declared.entry.Request.{Request}
 use Rattle.s7_base.specs.declared.entry.Answer.{Answer}
 use Rattle.s7_base.specs.Blocks.{Program}
-use Rattle.mc_machine.specs.declared.areas.Memory.{Memory}
+use Rattle.statement_effects.specs.declared.areas.Memory.{Memory}
 use Rattle.mc_machine.specs.declared.places.Level.{Level}
 use Rattle.mc_machine.specs.declared.places.Mode.TheVariants.{Fresh, Ticking, Timing}
 use Rattle.mc_machine.specs.declared.places.Place.{Place}
 use Rattle.mc_machine.specs.declared.places.Place.TheVariants.{AtOutputs, AtInputs, AtCycle, AtStop, Over, At}
-use Rattle.mc_machine.specs.declared.instruction.Flow.{Flow}
-use Rattle.mc_machine.specs.declared.instruction.Flow.TheVariants as flow
-use Rattle.mc_machine.specs.Areas.{with_registers}
-use Rattle.mc_machine.specs.Effect.{effect_of}
+use Rattle.statement_effects.specs.declared.instruction.Flow.{Flow}
+use Rattle.statement_effects.specs.declared.instruction.Flow.TheVariants as flow
+use Rattle.statement_effects.specs.Areas.{with_registers}
+use Rattle.statement_effects.specs.Effect.{effect_of}
 use Rattle.mc_machine.specs.Meaning.{State, Undefined, Rest, Meaning, Move, Goes, Calls, Reaction, Again, Completes, Turn, Asks, Moves, Halts, Leaves, Ends, statements_of, flows, stop_request, takes_at, answered, resume, noting, moves, reacts, completed, took, asking, does, runs, turn_of, turn, body_within, left, body}
 
 -- two continuations agree wherever no more is left than this

@@ -6,12 +6,12 @@ use Rattle.s7_base.specs.declared.entry.Request.{Request}
 use Rattle.s7_base.specs.declared.entry.Answer.{Answer}
 use Rattle.s7_base.specs.declared.diagnostics.DiagCode.{DiagCode}
 use Rattle.s7_base.specs.Blocks.{Program}
-use Rattle.mc_machine.specs.declared.areas.Memory.{Memory}
+use Rattle.statement_effects.specs.declared.areas.Memory.{Memory}
 use Rattle.mc_machine.specs.declared.places.Note.{Note}
 use Rattle.mc_machine.specs.declared.places.Place.TheVariants.{AtOutputs, AtStop, Over}
 use Rattle.mc_machine.specs.declared.places.Frame.{Frame}
 use Rattle.mc_machine.specs.Meaning.{Waits, Stopped, Undefined, Rest, Move, Goes, Calls, Reaction, Again, Completes, Turn, Asks, Moves, Halts, Leaves, Ends, with_note, stop_request, resume, moves, reacts, took, does, body, turn_of, takes, is_dated, takes_at, answered, never, start, start_notes, std}
-use Rattle.mc_machine.specs.Areas.{start_memory}
+use Rattle.statement_effects.specs.Areas.{start_memory}
 use Rattle.mc_machine.specs.Stands.{Config, newest, with_newest, state_of, rest_of, todo, StandsFor, IsMoved, Reacts, Follows, AsksAt, Keeps, turns_left}
 use Rattle.mc_machine.proofs.Enough.{Counts, body_turn}
 

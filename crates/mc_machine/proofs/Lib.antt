@@ -2,8 +2,6 @@ pub mod AreaBytes
 pub mod Asked
 pub mod Enough
 pub mod Keeps
-pub mod Operands
-pub mod PlayedMeans
 pub mod Row
 pub mod Sound
 pub mod Then

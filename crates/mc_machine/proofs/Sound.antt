@@ -8,15 +8,15 @@ use Rattle.s7_base.specs.declared.entry.Ask.{Ask}
 use Rattle.s7_base.specs.declared.entry.Ask.TheVariants as asks
 use Rattle.s7_base.specs.declared.entry.Request.{Request}
 use Rattle.s7_base.specs.Blocks.{Program}
-use Rattle.mc_machine.specs.declared.areas.Memory.{Memory}
+use Rattle.statement_effects.specs.declared.areas.Memory.{Memory}
 use Rattle.mc_machine.specs.declared.places.Level.{Level}
 use Rattle.mc_machine.specs.declared.places.Mode.TheVariants.{Fresh, Ticking, Timing}
 use Rattle.mc_machine.specs.declared.places.Place.{Place}
 use Rattle.mc_machine.specs.declared.places.Place.TheVariants.{AtOutputs, AtInputs, AtCycle, AtStop, Over, At}
 use Rattle.mc_machine.specs.declared.places.Frame.{Frame}
-use Rattle.mc_machine.specs.declared.instruction.Flow.{Flow}
-use Rattle.mc_machine.specs.declared.instruction.Flow.TheVariants as flow
-use Rattle.mc_machine.specs.Effect.{effect_of}
+use Rattle.statement_effects.specs.declared.instruction.Flow.{Flow}
+use Rattle.statement_effects.specs.declared.instruction.Flow.TheVariants as flow
+use Rattle.statement_effects.specs.Effect.{effect_of}
 use Rattle.mc_machine.specs.Meaning.{Asks, statements_of, flows, runs, turn_of, request_of, stop_request}
 use Rattle.mc_machine.specs.Stands.{Config, Follows, AsksAt, IsAsked, IsAskedAt, IsHigh, AreStacked, IsSound}
 

@@ -5,7 +5,7 @@ use Rattle.s7_base.specs.declared.entry.Request.{Request}
 use Rattle.s7_base.specs.declared.entry.Answer.{Answer}
 use Rattle.mc_machine.specs.declared.places.Place.{Place}
 use Rattle.mc_machine.specs.declared.places.Place.TheVariants.{AtStop}
-use Rattle.mc_machine.specs.Areas.{with_registers}
+use Rattle.statement_effects.specs.Areas.{with_registers}
 use Rattle.mc_machine.specs.Meaning.{State, End, Waits, Stopped, Left, Undefined, Rest, Meaning, Move, Goes, Calls, Reaction, Again, Completes, Turn, Asks, Moves, Halts, Leaves, Ends, stop_request, takes_at, answered, resume, noting, moves, reacts, completed, took, asking, does, turn_of, body_within, left, body}
 use Rattle.mc_machine.specs.BlockRuns.{then_do, BodyThen, BodyTurn}
 use Rattle.mc_machine.proofs.Enough.{body_turn}

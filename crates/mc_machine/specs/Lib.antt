@@ -1,15 +1,5 @@
-pub mod Areas
-pub mod BitEffect
 pub mod BlockRuns
-pub mod CounterEffect
-pub mod Effect
 pub mod EngineView
-pub mod JumpEffect
 pub mod Meaning
-pub mod MoveEffect
-pub mod NumberEffect
-pub mod Played
-pub mod Reading
 pub mod Rung
 pub mod Stands
-pub mod TimerEffect

@@ -18,7 +18,7 @@ use Rattle.s7_base.specs.Fitting.{fits}
 use Rattle.s7_base.specs.Priorities.{priority_of}
 use Rattle.s7_base.specs.declared.entry.StopCode.{StopCode}
 use Rattle.s7_base.specs.declared.entry.StopCode.TheVariants as stops
-use Rattle.mc_machine.specs.declared.areas.Memory.{Memory}
+use Rattle.statement_effects.specs.declared.areas.Memory.{Memory}
 use Rattle.mc_machine.specs.declared.places.Level.{Level}
 use Rattle.mc_machine.specs.declared.places.Mode.{Mode}
 use Rattle.mc_machine.specs.declared.places.Mode.TheVariants.{Fresh, Ticking, Timing}
@@ -26,14 +26,14 @@ use Rattle.mc_machine.specs.declared.places.Place.{Place}
 use Rattle.mc_machine.specs.declared.places.Place.TheVariants.{AtOutputs, AtInputs, AtCycle, AtStop, Over, At}
 use Rattle.mc_machine.specs.declared.places.Frame.{Frame}
 use Rattle.mc_machine.specs.declared.places.Note.{Note}
-use Rattle.mc_machine.specs.declared.instruction.Instruction.{Instruction}
-use Rattle.mc_machine.specs.declared.instruction.Instruction.TheVariants.{Timed}
-use Rattle.mc_machine.specs.declared.instruction.Flow.{Flow}
-use Rattle.mc_machine.specs.declared.instruction.Flow.TheVariants as flow
-use Rattle.mc_machine.specs.Areas.{clear_registers, with_registers, start_memory}
-use Rattle.mc_machine.specs.Reading.{instruction_of}
-use Rattle.mc_machine.specs.TimerEffect.{effect_timed}
-use Rattle.mc_machine.specs.Effect.{effect_of}
+use Rattle.statement_effects.specs.declared.instruction.Instruction.{Instruction}
+use Rattle.statement_effects.specs.declared.instruction.Instruction.TheVariants.{Timed}
+use Rattle.statement_effects.specs.declared.instruction.Flow.{Flow}
+use Rattle.statement_effects.specs.declared.instruction.Flow.TheVariants as flow
+use Rattle.statement_effects.specs.Areas.{clear_registers, with_registers, start_memory}
+use Rattle.statement_effects.specs.Reading.{instruction_of}
+use Rattle.statement_effects.specs.TimerEffect.{effect_timed}
+use Rattle.statement_effects.specs.Effect.{effect_of}
 
 -- how far a CPU has come: its program, what the statements see, the statements completed since the last answer,
 -- all diagnostic entries, and how many answers it has taken

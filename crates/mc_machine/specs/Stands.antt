@@ -9,7 +9,7 @@ use Rattle.s7_base.specs.declared.diagnostics.Area.{Area}
 use Rattle.s7_base.specs.declared.diagnostics.Area.TheVariants.{I, Q, M, Db, Timers, Counters, Registers}
 use Rattle.s7_base.specs.declared.blocks.BlockRef.{BlockRef}
 use Rattle.s7_base.specs.Blocks.{Program}
-use Rattle.mc_machine.specs.declared.areas.Memory.{Memory}
+use Rattle.statement_effects.specs.declared.areas.Memory.{Memory}
 use Rattle.mc_machine.specs.declared.places.Level.{Level}
 use Rattle.mc_machine.specs.declared.places.Mode.{Mode}
 use Rattle.mc_machine.specs.declared.places.Place.{Place}
@@ -18,8 +18,8 @@ use Rattle.mc_machine.specs.declared.places.Frame.{Frame}
 use Rattle.mc_machine.specs.declared.places.Note.{Note}
 use Rattle.timers.specs.Bytes as timer_form
 use Rattle.counters.specs.Bytes as counter_form
-use Rattle.mc_machine.specs.Areas.{with_registers}
-use Rattle.mc_machine.specs.CounterEffect.{counter_at}
+use Rattle.statement_effects.specs.Areas.{with_registers}
+use Rattle.statement_effects.specs.CounterEffect.{counter_at}
 use Rattle.mc_machine.specs.Meaning.{State, End, Waits, Stopped, Rest, Move, Goes, Calls, Reaction, Again, Completes, Turn, Asks, Moves, Halts, Leaves, Ends, stop_request, resume, body, takes, is_dated, stops_cpu, turn_of, never, std}
 
 -- where a machine is: its program, its place, the frames under it, what the statements see, the statements completed

@@ -7,9 +7,10 @@ ghost use Rattle.s7_base.specs.Blocks.{Program, IsPlayable};
 ghost use Rattle.mc_machine.specs.Stands.{IsIdle, IsRunning, CanAsk, CanTake, IsDated, CanGoOn, IsAsked, HasStopped, WaitsAt, Stands, CpuWaits, CpuStopped, area_bytes, OfRunning, HasSizes, byte_of, counter_of, notes_of};
 
 use crate::engine::Engine;
-use crate::{Memory, Place};
+use crate::Place;
 use counters::Counter;
 use s7_base::{Answer, Area, Blocks, DiagCode, NoMemory, Request};
+use statement_effects::Memory;
 use std::alloc::Global;
 use std::marker::Model;
 use timers::Timer;

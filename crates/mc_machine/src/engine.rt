@@ -8,13 +8,12 @@ ghost use Rattle.mc_machine.specs.Stands.{Running, state_of, newest, with_newest
 ghost use Rattle.s7_base.specs.declared.entry.Ask.{Ask};
 ghost use Rattle.mc_machine.specs.EngineView.{config_of, running_of};
 
-use crate::instruction::{Flow, Instruction};
-use crate::reading::instruction;
-use crate::{Frame, Level, Memory, Mode, Note, Place, Registers};
+use crate::{Frame, Level, Mode, Note, Place};
 use arrayvec::ArrayVec;
 use s7_base::{
     Answer, Ask, BlockRef, Blocks, CodeKind, DiagCode, Loss, Request, Side, Statement, StopCode,
 };
+use statement_effects::{Flow, Instruction, Memory, Registers, instruction_of};
 
 /// How many diagnostic entries are kept.
 const KEPT_NOTES: usize = 120;
@@ -60,7 +59,7 @@ fn instruction_in(program: &Blocks, block: BlockRef, at: usize) -> Option<Instru
     ensures within { OnSome result (at + 1 < 2 ^ 64) }
 {
     let statement = statement_at(program, block, at)?;
-    instruction(&statement)
+    instruction_of(&statement)
 }
 
 /// The number of statements of a block, the place of its end.

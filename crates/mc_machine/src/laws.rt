@@ -1,13 +1,5 @@
 //! Laws of the definitions.
 ghost use Rattle.mc_machine.specs.BlockRuns.{BodyThen, BodyTurn};
-ghost use Rattle.mc_machine.specs.Played.{PlayedMeans};
-
-/// Each statement of the language that is played means an instruction, so that in a program that is played no statement
-/// is passed over.
-#[tactic(auto, using(crate::proofs::PlayedMeans::played_means))]
-pub fn played_statements_mean_instructions()
-    ensures { PlayedMeans }
-{}
 
 /// What a place of a program means, given what follows its block, is the run of the block by itself, and then what follows
 /// from where the block ended, over the answers that were left there. Where the CPU stopped in the block, or no answer

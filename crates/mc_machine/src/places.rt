@@ -1,7 +1,7 @@
 //! Where a CPU stands.
 
-use crate::Registers;
 use s7_base::{BlockRef, DiagCode, StopCode};
+use statement_effects::Registers;
 
 /// The level that a block runs on.
 #[derive(Clone, Copy, Debug, PartialEq, Eq)]

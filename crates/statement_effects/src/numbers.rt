@@ -1,7 +1,7 @@
 //! Statements on numbers, words and shifts.
 ghost use Rattle.std.specs.Prelude.{◌≡◌, OnOk, OnErr, IfErr};
 ghost use Rattle.accumulators.specs.Parts.{part, number};
-ghost use Rattle.mc_machine.specs.NumberEffect.{effect_number, count_of, effect_word};
+ghost use Rattle.statement_effects.specs.NumberEffect.{effect_number, count_of, effect_word};
 
 use crate::Registers;
 use crate::instruction::{BAD_DIGIT, NumberInstruction, WordInstruction};

@@ -6,16 +6,16 @@ use Rattle.status_word.specs.JumpRows.{operands}
 use Rattle.bit_unit.specs.declared.unit.BitFault.{BitFault}
 use Rattle.bit_unit.specs.declared.unit.BitFault.TheVariants.{NestingFull, NestingEmpty, McrFull, McrEmpty}
 use Rattle.bit_unit.specs.Steps.{Step, group_opened, group_closed, zone_opened, zone_closed}
-use Rattle.mc_machine.specs.declared.areas.Registers.{Registers}
-use Rattle.mc_machine.specs.declared.areas.Memory.{Memory}
-use Rattle.mc_machine.specs.declared.instruction.BitPlace.{BitPlace}
-use Rattle.mc_machine.specs.declared.instruction.BitInstruction.{BitInstruction}
-use Rattle.mc_machine.specs.declared.instruction.BitInstruction.TheVariants as bits
-use Rattle.mc_machine.specs.declared.instruction.StatusInstruction.{StatusInstruction}
-use Rattle.mc_machine.specs.declared.instruction.StatusInstruction.TheVariants as status
-use Rattle.mc_machine.specs.declared.instruction.GroupInstruction.{GroupInstruction}
-use Rattle.mc_machine.specs.declared.instruction.GroupInstruction.TheVariants as groups
-use Rattle.mc_machine.specs.Areas.{bit_at, with_bit_at, with_status, is_off}
+use Rattle.statement_effects.specs.declared.areas.Registers.{Registers}
+use Rattle.statement_effects.specs.declared.areas.Memory.{Memory}
+use Rattle.statement_effects.specs.declared.instruction.BitPlace.{BitPlace}
+use Rattle.statement_effects.specs.declared.instruction.BitInstruction.{BitInstruction}
+use Rattle.statement_effects.specs.declared.instruction.BitInstruction.TheVariants as bits
+use Rattle.statement_effects.specs.declared.instruction.StatusInstruction.{StatusInstruction}
+use Rattle.statement_effects.specs.declared.instruction.StatusInstruction.TheVariants as status
+use Rattle.statement_effects.specs.declared.instruction.GroupInstruction.{GroupInstruction}
+use Rattle.statement_effects.specs.declared.instruction.GroupInstruction.TheVariants as groups
+use Rattle.statement_effects.specs.Areas.{bit_at, with_bit_at, with_status, is_off}
 
 -- the bit at a place is set where this holds
 abbrev pub with_bit_where : Bool → Memory → BitPlace → Bool → Memory

@@ -3,12 +3,12 @@ use Rattle.std.specs.Prelude.{ℕ, ◌%◌, ◌^◌, if◌then◌else◌}
 use Rattle.status_word.specs.Status.{bits_of, status_of}
 use Rattle.accumulators.specs.declared.accus.Accus.{Accus}
 use Rattle.accumulators.specs.Moves.{loaded, moved, constant_added, byte_counted}
-use Rattle.mc_machine.specs.declared.areas.Memory.{Memory}
-use Rattle.mc_machine.specs.declared.instruction.MoveInstruction.{MoveInstruction}
-use Rattle.mc_machine.specs.declared.instruction.MoveInstruction.TheVariants.{Load, LoadConstant, LoadStatus, Store, StoreStatus}
-use Rattle.mc_machine.specs.declared.instruction.AccuInstruction.{AccuInstruction}
-use Rattle.mc_machine.specs.declared.instruction.AccuInstruction.TheVariants as accus
-use Rattle.mc_machine.specs.Areas.{value_at, with_value_at, with_accus, with_status, is_off}
+use Rattle.statement_effects.specs.declared.areas.Memory.{Memory}
+use Rattle.statement_effects.specs.declared.instruction.MoveInstruction.{MoveInstruction}
+use Rattle.statement_effects.specs.declared.instruction.MoveInstruction.TheVariants.{Load, LoadConstant, LoadStatus, Store, StoreStatus}
+use Rattle.statement_effects.specs.declared.instruction.AccuInstruction.{AccuInstruction}
+use Rattle.statement_effects.specs.declared.instruction.AccuInstruction.TheVariants as accus
+use Rattle.statement_effects.specs.Areas.{value_at, with_value_at, with_accus, with_status, is_off}
 
 -- L of a value
 abbrev pub with_loaded : Memory → ℕ → Memory

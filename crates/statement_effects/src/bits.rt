@@ -1,8 +1,8 @@
 //! Statements on bits, on the status word, and brackets.
 ghost use Rattle.std.specs.Prelude.{◌≡◌, ◌<◌, ◌≤◌, not, ◌&&◌, OnOk, OnErr, IfErr};
-ghost use Rattle.mc_machine.specs.Areas.{bit_of, with_bit, bit_at, with_bit_at, is_off};
-ghost use Rattle.mc_machine.specs.Reading.{IsBitPlaced, HasBit, HasNumber};
-ghost use Rattle.mc_machine.specs.BitEffect.{with_bit_where, effect_bit, status_operand, effect_status, error_of, effect_group};
+ghost use Rattle.statement_effects.specs.Areas.{bit_of, with_bit, bit_at, with_bit_at, is_off};
+ghost use Rattle.statement_effects.specs.Reading.{IsBitPlaced, HasBit, HasNumber};
+ghost use Rattle.statement_effects.specs.BitEffect.{with_bit_where, effect_bit, status_operand, effect_status, error_of, effect_group};
 
 use crate::instruction::{BitInstruction, BitPlace, ByteArea, GroupInstruction, StatusInstruction};
 use crate::{Memory, Registers};

@@ -8,14 +8,14 @@ use Rattle.bit_unit.specs.State.{cleared_unit}
 use Rattle.bit_unit.specs.Steps.{is_zone_off}
 use Rattle.timers.specs.State as timers
 use Rattle.counters.specs.State as counters
-use Rattle.mc_machine.specs.declared.areas.Registers.{Registers}
-use Rattle.mc_machine.specs.declared.areas.Memory.{Memory}
-use Rattle.mc_machine.specs.declared.instruction.ByteArea.{ByteArea}
-use Rattle.mc_machine.specs.declared.instruction.ByteArea.TheVariants.{I, Q, M}
-use Rattle.mc_machine.specs.declared.instruction.BitPlace.{BitPlace}
-use Rattle.mc_machine.specs.declared.instruction.ValuePlace.{ValuePlace}
-use Rattle.mc_machine.specs.declared.instruction.Width.{Width}
-use Rattle.mc_machine.specs.declared.instruction.Width.TheVariants.{Byte, Word, Double}
+use Rattle.statement_effects.specs.declared.areas.Registers.{Registers}
+use Rattle.statement_effects.specs.declared.areas.Memory.{Memory}
+use Rattle.statement_effects.specs.declared.instruction.ByteArea.{ByteArea}
+use Rattle.statement_effects.specs.declared.instruction.ByteArea.TheVariants.{I, Q, M}
+use Rattle.statement_effects.specs.declared.instruction.BitPlace.{BitPlace}
+use Rattle.statement_effects.specs.declared.instruction.ValuePlace.{ValuePlace}
+use Rattle.statement_effects.specs.declared.instruction.Width.{Width}
+use Rattle.statement_effects.specs.declared.instruction.Width.TheVariants.{Byte, Word, Double}
 
 -- registers --
 

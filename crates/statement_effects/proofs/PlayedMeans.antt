@@ -13,12 +13,12 @@ use Rattle.s7_base.specs.Blocks.{is_elsewhere, is_call_operation, is_call_row, i
 use Rattle.status_word.specs.declared.status.Check.TheVariants as checks
 use Rattle.accumulators.specs.declared.shifts.Shift.TheVariants as shifts
 use Rattle.timers.specs.declared.kind.TimerKind.TheVariants as timer_kinds
-use Rattle.mc_machine.specs.declared.instruction.BitInstruction.TheVariants as bits
-use Rattle.mc_machine.specs.declared.instruction.TimerOperation.TheVariants as timer_ops
-use Rattle.mc_machine.specs.declared.instruction.TimedOperation.TheVariants as timed_ops
-use Rattle.mc_machine.specs.declared.instruction.CounterOperation.TheVariants as counter_ops
-use Rattle.mc_machine.specs.Reading.{read_operation, read_row, instruction_of}
-use Rattle.mc_machine.proofs.Operands.{IsHere, is_here, written, timed, of_timer, counted, checked, set, reset, load, store, coded, count, add, shift, number_fits}
+use Rattle.statement_effects.specs.declared.instruction.BitInstruction.TheVariants as bits
+use Rattle.statement_effects.specs.declared.instruction.TimerOperation.TheVariants as timer_ops
+use Rattle.statement_effects.specs.declared.instruction.TimedOperation.TheVariants as timed_ops
+use Rattle.statement_effects.specs.declared.instruction.CounterOperation.TheVariants as counter_ops
+use Rattle.statement_effects.specs.Reading.{read_operation, read_row, instruction_of}
+use Rattle.statement_effects.proofs.Operands.{IsHere, is_here, written, timed, of_timer, counted, checked, set, reset, load, store, coded, count, add, shift, number_fits}
 
 -- what a row allows, and is played, is read
 abbrev Reads : InstructionRow → Type 0

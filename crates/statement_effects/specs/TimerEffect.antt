@@ -6,13 +6,13 @@ use Rattle.s5_time.specs.Duration.{duration_of, word_of}
 use Rattle.timers.specs.declared.kind.TimerKind.{TimerKind}
 use Rattle.timers.specs.Rule.{output, rest, starts, started, reset, enabled}
 use Rattle.timers.specs.State.{TimerState, fresh}
-use Rattle.mc_machine.specs.declared.areas.Memory.{Memory}
-use Rattle.mc_machine.specs.declared.instruction.TimerOperation.{TimerOperation}
-use Rattle.mc_machine.specs.declared.instruction.TimerOperation.TheVariants as plain
-use Rattle.mc_machine.specs.declared.instruction.TimedOperation.{TimedOperation}
-use Rattle.mc_machine.specs.declared.instruction.TimedOperation.TheVariants as timed
-use Rattle.mc_machine.specs.Areas.{with_status}
-use Rattle.mc_machine.specs.MoveEffect.{with_loaded}
+use Rattle.statement_effects.specs.declared.areas.Memory.{Memory}
+use Rattle.statement_effects.specs.declared.instruction.TimerOperation.{TimerOperation}
+use Rattle.statement_effects.specs.declared.instruction.TimerOperation.TheVariants as plain
+use Rattle.statement_effects.specs.declared.instruction.TimedOperation.{TimedOperation}
+use Rattle.statement_effects.specs.declared.instruction.TimedOperation.TheVariants as timed
+use Rattle.statement_effects.specs.Areas.{with_status}
+use Rattle.statement_effects.specs.MoveEffect.{with_loaded}
 
 abbrev pub timer_at : Memory → ℕ → TimerState
 timer_at memory n = slice_index_or memory.timers n fresh

@@ -1,6 +1,6 @@
 //! Statements on counters.
 ghost use Rattle.std.specs.Prelude.{◌≡◌, length, OnOk, OnErr, IfErr, Ok, Err};
-ghost use Rattle.mc_machine.specs.CounterEffect.{counter_at, with_counter, effect_set, effect_counter};
+ghost use Rattle.statement_effects.specs.CounterEffect.{counter_at, with_counter, effect_set, effect_counter};
 
 use crate::Memory;
 use crate::instruction::{BAD_DIGIT, CounterOperation};
@@ -8,7 +8,8 @@ use counters::Counter;
 use s5_time::{bcd3, read_bcd3};
 
 impl Memory {
-    pub(crate) fn counter(&self, n: u8) -> Counter
+    /// Returns the counter of a number.
+    pub fn counter(&self, n: u8) -> Counter
         ensures value { result ≡ counter_at self.now n }
         ensures count { length self.now.counters ≡ 256 }
     {

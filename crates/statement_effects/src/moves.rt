@@ -1,8 +1,8 @@
 //! Loads, transfers, and moves between accumulators.
 ghost use Rattle.std.specs.Prelude.{◌≡◌, ◌+◌, ◌*◌, ◌<◌, ◌≤◌, ◌^◌, ◌%◌, length, slice_index};
-ghost use Rattle.mc_machine.specs.Areas.{value_in, with_value_in, value_at, with_value_at, bytes_in, is_off};
-ghost use Rattle.mc_machine.specs.Reading.{IsValuePlaced, HasValue};
-ghost use Rattle.mc_machine.specs.MoveEffect.{with_loaded, transferred, effect_move, effect_accu};
+ghost use Rattle.statement_effects.specs.Areas.{value_in, with_value_in, value_at, with_value_at, bytes_in, is_off};
+ghost use Rattle.statement_effects.specs.Reading.{IsValuePlaced, HasValue};
+ghost use Rattle.statement_effects.specs.MoveEffect.{with_loaded, transferred, effect_move, effect_accu};
 
 use crate::Memory;
 use crate::instruction::{AccuInstruction, ByteArea, MoveInstruction, ValuePlace, Width};

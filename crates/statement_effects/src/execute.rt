@@ -1,13 +1,13 @@
 //! What a statement does.
 ghost use Rattle.std.specs.Prelude.{◌≡◌, OnOk, IfErr};
-ghost use Rattle.mc_machine.specs.Reading.{HasOperand};
-ghost use Rattle.mc_machine.specs.Effect.{effect, effect_of};
+ghost use Rattle.statement_effects.specs.Reading.{HasOperand};
+ghost use Rattle.statement_effects.specs.Effect.{effect, effect_of};
 
 use crate::Memory;
 use crate::bits::execute_status;
 use crate::instruction::{Flow, Instruction};
 use crate::moves::execute_accu;
-use crate::reading::instruction;
+use crate::reading::instruction_of;
 use s7_base::Statement;
 
 /// The next statement follows, or the error of one that failed.
@@ -50,12 +50,12 @@ impl Memory {
         Flow::Next
     }
 
-    /// What a statement does.
-    pub(crate) fn perform(&mut self, statement: &Statement) -> Flow
+    /// Does what a stored statement does, and returns where it leads. A statement that needs the moment changes nothing yet.
+    pub fn perform(&mut self, statement: &Statement) -> Flow
         ensures effect { effect_of statement.now self.old ≡ (self.new, result) }
         ensures asks { result ≡ Flow.AskNow → self.new ≡ self.old }
     {
-        match instruction(statement) {
+        match instruction_of(statement) {
             Some(i) => self.execute(i),
             None => Flow::Next,
         }

@@ -7,11 +7,11 @@ use Rattle.accumulators.specs.Numbers.{worked, worked_status}
 use Rattle.accumulators.specs.Bcd.{are_decimal, bcd_digits, from_bcd_of, to_bcd_of, to_bcd_status}
 use Rattle.accumulators.specs.Words.{worded, worded_status}
 use Rattle.accumulators.specs.Shifts.{shifted, shifted_status}
-use Rattle.mc_machine.specs.declared.areas.Registers.{Registers}
-use Rattle.mc_machine.specs.declared.instruction.NumberInstruction.{NumberInstruction}
-use Rattle.mc_machine.specs.declared.instruction.NumberInstruction.TheVariants.{Work, FromBcd, ToBcd, Compare}
-use Rattle.mc_machine.specs.declared.instruction.WordInstruction.{WordInstruction}
-use Rattle.mc_machine.specs.declared.instruction.WordInstruction.TheVariants.{Logic, Shift}
+use Rattle.statement_effects.specs.declared.areas.Registers.{Registers}
+use Rattle.statement_effects.specs.declared.instruction.NumberInstruction.{NumberInstruction}
+use Rattle.statement_effects.specs.declared.instruction.NumberInstruction.TheVariants.{Work, FromBcd, ToBcd, Compare}
+use Rattle.statement_effects.specs.declared.instruction.WordInstruction.{WordInstruction}
+use Rattle.statement_effects.specs.declared.instruction.WordInstruction.TheVariants.{Logic, Shift}
 
 -- a statement on numbers; a digit above 9 is error 1
 abbrev pub effect_number : NumberInstruction → Registers → Result Registers ℕ

@@ -2,7 +2,7 @@
 ghost use Rattle.std.specs.Prelude.{◌≡◌, ◌≢◌, ◌≤◌};
 ghost use Rattle.accumulators.specs.declared.parts.Part.{Part};
 ghost use Rattle.accumulators.specs.Parts.{with_low};
-ghost use Rattle.mc_machine.specs.JumpEffect.{lowered, effect_jump, effect_end_when_set};
+ghost use Rattle.statement_effects.specs.JumpEffect.{lowered, effect_jump, effect_end_when_set};
 
 use crate::Registers;
 use crate::instruction::{Flow, JumpInstruction};

@@ -1,9 +1,9 @@
 //! What stored statements mean.
 ghost use Rattle.std.specs.Prelude.{◌≡◌, IfSome};
 ghost use Rattle.s7_base.specs.Operands.{is_in};
-ghost use Rattle.mc_machine.specs.Areas.{size_of, bytes_in};
-ghost use Rattle.mc_machine.specs.Reading.{area_in, bit_place, width_of, value_place, read_timer, read_timed, read_counter, read_check, read_set, read_reset, read_bit, read_load, read_store, read_coded, read_count, read_add, constant_in, read_logic, read_shift, read_bit_logic, read_accu, read_transfer, read_arithmetic, read_comparison, read_word_logic, read_shift_rotate, read_branch, read_timer_control, read_counter_control, read_block_control, read_operation, instruction_of, IsBitPlaced, IsValuePlaced, HasOperand};
-ghost use Rattle.mc_machine.specs.declared.instruction.BitInstruction.TheVariants as bits;
+ghost use Rattle.statement_effects.specs.Areas.{size_of, bytes_in};
+ghost use Rattle.statement_effects.specs.Reading.{area_in, bit_place, width_of, value_place, read_timer, read_timed, read_counter, read_check, read_set, read_reset, read_bit, read_load, read_store, read_coded, read_count, read_add, constant_in, read_logic, read_shift, read_bit_logic, read_accu, read_transfer, read_arithmetic, read_comparison, read_word_logic, read_shift_rotate, read_branch, read_timer_control, read_counter_control, read_block_control, read_operation, instruction_of, IsBitPlaced, IsValuePlaced, HasOperand};
+ghost use Rattle.statement_effects.specs.declared.instruction.BitInstruction.TheVariants as bits;
 
 use crate::instruction::{
     AccuInstruction, BitInstruction, BitPlace, ByteArea, CounterOperation, GroupInstruction,
@@ -520,8 +520,9 @@ fn read_operation(op: Operation, s: &Statement) -> Option<Instruction>
     }
 }
 
-/// What a statement means. None where it is none that is played.
-pub(crate) fn instruction(s: &Statement) -> Option<Instruction>
+/// Returns what a stored statement means. None where it is no statement, or one that is not supported; a program that is
+/// played has none.
+pub fn instruction_of(s: &Statement) -> Option<Instruction>
     ensures reads { result ≡ instruction_of s.now }
     ensures placed { IfSome result HasOperand }
 {

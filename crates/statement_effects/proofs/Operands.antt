@@ -10,12 +10,12 @@ use Rattle.s7_base.specs.Operands.{area_number, is_in, is_data_number, ends_by, 
 use Rattle.s7_base.specs.Blocks.{is_elsewhere}
 use Rattle.status_word.specs.declared.status.Check.{Check}
 use Rattle.accumulators.specs.declared.shifts.Shift.{Shift}
-use Rattle.mc_machine.specs.declared.instruction.BitPlace.{BitPlace}
-use Rattle.mc_machine.specs.declared.instruction.BitInstruction.{BitInstruction}
-use Rattle.mc_machine.specs.declared.instruction.TimerOperation.{TimerOperation}
-use Rattle.mc_machine.specs.declared.instruction.TimedOperation.{TimedOperation}
-use Rattle.mc_machine.specs.declared.instruction.CounterOperation.{CounterOperation}
-use Rattle.mc_machine.specs.Reading.{read_bit, read_timer, read_timed, read_counter, read_check, read_set, read_reset, read_load, read_store, read_coded, read_count, read_add, read_shift}
+use Rattle.statement_effects.specs.declared.instruction.BitPlace.{BitPlace}
+use Rattle.statement_effects.specs.declared.instruction.BitInstruction.{BitInstruction}
+use Rattle.statement_effects.specs.declared.instruction.TimerOperation.{TimerOperation}
+use Rattle.statement_effects.specs.declared.instruction.TimedOperation.{TimedOperation}
+use Rattle.statement_effects.specs.declared.instruction.CounterOperation.{CounterOperation}
+use Rattle.statement_effects.specs.Reading.{read_bit, read_timer, read_timed, read_counter, read_check, read_set, read_reset, read_load, read_store, read_coded, read_count, read_add, read_shift}
 
 -- the operand is none of the places that are not played
 pub record IsHere (s : Statement) : Type 0 where

@@ -1,20 +1,20 @@
 -- What each statement does to what the statements see, and where it leads: one row a group.
 use Rattle.std.specs.Prelude.{ℕ, Option, Some, None, Result, Ok, Err}
 use Rattle.s7_base.specs.declared.statement.Statement.{Statement}
-use Rattle.mc_machine.specs.declared.areas.Registers.{Registers}
-use Rattle.mc_machine.specs.declared.areas.Memory.{Memory}
-use Rattle.mc_machine.specs.declared.instruction.Instruction.{Instruction}
-use Rattle.mc_machine.specs.declared.instruction.Instruction.TheVariants as groups
-use Rattle.mc_machine.specs.declared.instruction.Flow.{Flow}
-use Rattle.mc_machine.specs.declared.instruction.Flow.TheVariants.{Next, End, Fail, AskNow}
-use Rattle.mc_machine.specs.Areas.{with_registers, with_status, with_accus}
-use Rattle.mc_machine.specs.BitEffect.{effect_bit, effect_status, effect_group}
-use Rattle.mc_machine.specs.MoveEffect.{effect_move, effect_accu}
-use Rattle.mc_machine.specs.NumberEffect.{effect_number, effect_word}
-use Rattle.mc_machine.specs.JumpEffect.{effect_jump, effect_end, effect_end_when_set}
-use Rattle.mc_machine.specs.TimerEffect.{effect_timer}
-use Rattle.mc_machine.specs.CounterEffect.{effect_counter}
-use Rattle.mc_machine.specs.Reading.{instruction_of}
+use Rattle.statement_effects.specs.declared.areas.Registers.{Registers}
+use Rattle.statement_effects.specs.declared.areas.Memory.{Memory}
+use Rattle.statement_effects.specs.declared.instruction.Instruction.{Instruction}
+use Rattle.statement_effects.specs.declared.instruction.Instruction.TheVariants as groups
+use Rattle.statement_effects.specs.declared.instruction.Flow.{Flow}
+use Rattle.statement_effects.specs.declared.instruction.Flow.TheVariants.{Next, End, Fail, AskNow}
+use Rattle.statement_effects.specs.Areas.{with_registers, with_status, with_accus}
+use Rattle.statement_effects.specs.BitEffect.{effect_bit, effect_status, effect_group}
+use Rattle.statement_effects.specs.MoveEffect.{effect_move, effect_accu}
+use Rattle.statement_effects.specs.NumberEffect.{effect_number, effect_word}
+use Rattle.statement_effects.specs.JumpEffect.{effect_jump, effect_end, effect_end_when_set}
+use Rattle.statement_effects.specs.TimerEffect.{effect_timer}
+use Rattle.statement_effects.specs.CounterEffect.{effect_counter}
+use Rattle.statement_effects.specs.Reading.{instruction_of}
 
 -- the next statement follows over the new memory; a statement that fails changes nothing
 abbrev pub onward : Memory → Result Memory ℕ → Memory × Flow

@@ -1,6 +1,6 @@
 //! What the statements see.
 ghost use Rattle.std.specs.Prelude.{◌≡◌};
-ghost use Rattle.mc_machine.specs.Areas.{clear_registers, start_memory};
+ghost use Rattle.statement_effects.specs.Areas.{clear_registers, start_memory};
 
 use accumulators::Accus;
 use bit_unit::BitUnit;
@@ -17,8 +17,8 @@ pub struct Registers {
 }
 
 impl Registers {
-    /// The registers where no block has begun.
-    pub(crate) fn clear() -> Registers
+    /// Returns the registers where no block has begun: all 0, no group and no zone open.
+    pub fn clear() -> Registers
         ensures { result ≡ clear_registers }
     {
         Registers {
@@ -41,8 +41,8 @@ pub struct Memory {
 }
 
 impl Memory {
-    /// All areas are 0.
-    pub(crate) fn start() -> Memory
+    /// Returns what a CPU sees at its start: all areas are 0, and no timer and no counter was used.
+    pub fn start() -> Memory
         ensures { result ≡ start_memory }
     {
         Memory {

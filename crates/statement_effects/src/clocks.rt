@@ -1,6 +1,6 @@
 //! Statements on timers.
 ghost use Rattle.std.specs.Prelude.{◌≡◌, OnOk, OnErr, IfErr, Ok, Err, ◌%◌};
-ghost use Rattle.mc_machine.specs.TimerEffect.{timer_at, with_timer, timer_after, effect_timer, effect_start, effect_timed};
+ghost use Rattle.statement_effects.specs.TimerEffect.{timer_at, with_timer, timer_after, effect_timer, effect_start, effect_timed};
 
 use crate::Memory;
 use crate::instruction::{BAD_DIGIT, TimedOperation, TimerOperation};
@@ -67,11 +67,11 @@ impl Memory {
         Ok(())
     }
 
-    /// A statement on a timer at a moment.
+    /// Completes a statement on the timer of a number at a moment in milliseconds, once the CPU has asked for it.
     ///
     /// # Errors
-    /// The number of the error of a digit above 9, where a run begins. Nothing changes.
-    pub(crate) fn execute_timed(&mut self, op: TimedOperation, n: u8, moment: u64) -> Result<(), u8>
+    /// Error 1 is a digit above 9, where a run begins. Nothing changes.
+    pub fn execute_timed(&mut self, op: TimedOperation, n: u8, moment: u64) -> Result<(), u8>
         ensures ok { OnOk result (effect_timed op n moment self.old ≡ Ok self.new) }
         ensures err { IfErr result (λ error. effect_timed op n moment self.old ≡ Err error) }
         ensures same { OnErr result (self.new ≡ self.old) }

@@ -5,11 +5,11 @@ use Rattle.status_word.specs.JumpRows.{taken, jumped, after_jump_row, block_row}
 use Rattle.accumulators.specs.declared.accus.Accus.{Accus}
 use Rattle.accumulators.specs.declared.parts.Part.TheVariants.{LowWord}
 use Rattle.accumulators.specs.Parts.{with_low}
-use Rattle.mc_machine.specs.declared.areas.Registers.{Registers}
-use Rattle.mc_machine.specs.declared.instruction.JumpInstruction.{JumpInstruction}
-use Rattle.mc_machine.specs.declared.instruction.JumpInstruction.TheVariants as jumps
-use Rattle.mc_machine.specs.declared.instruction.Flow.{Flow}
-use Rattle.mc_machine.specs.declared.instruction.Flow.TheVariants.{Next, Jump, Among, End}
+use Rattle.statement_effects.specs.declared.areas.Registers.{Registers}
+use Rattle.statement_effects.specs.declared.instruction.JumpInstruction.{JumpInstruction}
+use Rattle.statement_effects.specs.declared.instruction.JumpInstruction.TheVariants as jumps
+use Rattle.statement_effects.specs.declared.instruction.Flow.{Flow}
+use Rattle.statement_effects.specs.declared.instruction.Flow.TheVariants.{Next, Jump, Among, End}
 
 abbrev pub jumps_where : Bool → ℕ → Flow
 jumps_where condition target = if condition then Jump target else Next

@@ -43,33 +43,33 @@ use Rattle.accumulators.specs.declared.words.Word.TheVariants as word_ops
 use Rattle.accumulators.specs.declared.shifts.Shift.{Shift}
 use Rattle.accumulators.specs.declared.shifts.Shift.TheVariants as shift_kinds
 use Rattle.timers.specs.declared.kind.TimerKind.TheVariants as timer_kinds
-use Rattle.mc_machine.specs.declared.instruction.ByteArea.{ByteArea}
-use Rattle.mc_machine.specs.declared.instruction.ByteArea.TheVariants.{I, Q, M}
-use Rattle.mc_machine.specs.declared.instruction.BitPlace.{BitPlace}
-use Rattle.mc_machine.specs.declared.instruction.Width.{Width}
-use Rattle.mc_machine.specs.declared.instruction.Width.TheVariants as widths
-use Rattle.mc_machine.specs.declared.instruction.ValuePlace.{ValuePlace}
-use Rattle.mc_machine.specs.declared.instruction.BitInstruction.{BitInstruction}
-use Rattle.mc_machine.specs.declared.instruction.BitInstruction.TheVariants as bits
-use Rattle.mc_machine.specs.declared.instruction.StatusInstruction.{StatusInstruction}
-use Rattle.mc_machine.specs.declared.instruction.StatusInstruction.TheVariants as status
-use Rattle.mc_machine.specs.declared.instruction.GroupInstruction.TheVariants as brackets
-use Rattle.mc_machine.specs.declared.instruction.MoveInstruction.{MoveInstruction}
-use Rattle.mc_machine.specs.declared.instruction.MoveInstruction.TheVariants as moves
-use Rattle.mc_machine.specs.declared.instruction.AccuInstruction.TheVariants as accus
-use Rattle.mc_machine.specs.declared.instruction.NumberInstruction.TheVariants as numbers
-use Rattle.mc_machine.specs.declared.instruction.WordInstruction.TheVariants as words
-use Rattle.mc_machine.specs.declared.instruction.JumpInstruction.{JumpInstruction}
-use Rattle.mc_machine.specs.declared.instruction.JumpInstruction.TheVariants as jumps
-use Rattle.mc_machine.specs.declared.instruction.TimerOperation.{TimerOperation}
-use Rattle.mc_machine.specs.declared.instruction.TimerOperation.TheVariants as timer_ops
-use Rattle.mc_machine.specs.declared.instruction.TimedOperation.{TimedOperation}
-use Rattle.mc_machine.specs.declared.instruction.TimedOperation.TheVariants as timed_ops
-use Rattle.mc_machine.specs.declared.instruction.CounterOperation.{CounterOperation}
-use Rattle.mc_machine.specs.declared.instruction.CounterOperation.TheVariants as counter_ops
-use Rattle.mc_machine.specs.declared.instruction.Instruction.{Instruction}
-use Rattle.mc_machine.specs.declared.instruction.Instruction.TheVariants as groups
-use Rattle.mc_machine.specs.Areas.{size_of, bytes_in}
+use Rattle.statement_effects.specs.declared.instruction.ByteArea.{ByteArea}
+use Rattle.statement_effects.specs.declared.instruction.ByteArea.TheVariants.{I, Q, M}
+use Rattle.statement_effects.specs.declared.instruction.BitPlace.{BitPlace}
+use Rattle.statement_effects.specs.declared.instruction.Width.{Width}
+use Rattle.statement_effects.specs.declared.instruction.Width.TheVariants as widths
+use Rattle.statement_effects.specs.declared.instruction.ValuePlace.{ValuePlace}
+use Rattle.statement_effects.specs.declared.instruction.BitInstruction.{BitInstruction}
+use Rattle.statement_effects.specs.declared.instruction.BitInstruction.TheVariants as bits
+use Rattle.statement_effects.specs.declared.instruction.StatusInstruction.{StatusInstruction}
+use Rattle.statement_effects.specs.declared.instruction.StatusInstruction.TheVariants as status
+use Rattle.statement_effects.specs.declared.instruction.GroupInstruction.TheVariants as brackets
+use Rattle.statement_effects.specs.declared.instruction.MoveInstruction.{MoveInstruction}
+use Rattle.statement_effects.specs.declared.instruction.MoveInstruction.TheVariants as moves
+use Rattle.statement_effects.specs.declared.instruction.AccuInstruction.TheVariants as accus
+use Rattle.statement_effects.specs.declared.instruction.NumberInstruction.TheVariants as numbers
+use Rattle.statement_effects.specs.declared.instruction.WordInstruction.TheVariants as words
+use Rattle.statement_effects.specs.declared.instruction.JumpInstruction.{JumpInstruction}
+use Rattle.statement_effects.specs.declared.instruction.JumpInstruction.TheVariants as jumps
+use Rattle.statement_effects.specs.declared.instruction.TimerOperation.{TimerOperation}
+use Rattle.statement_effects.specs.declared.instruction.TimerOperation.TheVariants as timer_ops
+use Rattle.statement_effects.specs.declared.instruction.TimedOperation.{TimedOperation}
+use Rattle.statement_effects.specs.declared.instruction.TimedOperation.TheVariants as timed_ops
+use Rattle.statement_effects.specs.declared.instruction.CounterOperation.{CounterOperation}
+use Rattle.statement_effects.specs.declared.instruction.CounterOperation.TheVariants as counter_ops
+use Rattle.statement_effects.specs.declared.instruction.Instruction.{Instruction}
+use Rattle.statement_effects.specs.declared.instruction.Instruction.TheVariants as groups
+use Rattle.statement_effects.specs.Areas.{size_of, bytes_in}
 
 -- operands --
 

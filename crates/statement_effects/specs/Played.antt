@@ -3,7 +3,7 @@ use Rattle.std.specs.Prelude.{◌≡◌, ℕ, true, is_some}
 use Rattle.s7_base.specs.declared.statement.Statement.{Statement}
 use Rattle.s7_base.specs.Statements.{is_statement}
 use Rattle.s7_base.specs.Blocks.{is_played}
-use Rattle.mc_machine.specs.Reading.{instruction_of}
+use Rattle.statement_effects.specs.Reading.{instruction_of}
 
 -- each statement of the language that is played means an instruction
 abbrev pub PlayedMeans : Type 0

@@ -1,0 +1,10 @@
+pub mod Areas
+pub mod BitEffect
+pub mod CounterEffect
+pub mod Effect
+pub mod JumpEffect
+pub mod MoveEffect
+pub mod NumberEffect
+pub mod Played
+pub mod Reading
+pub mod TimerEffect

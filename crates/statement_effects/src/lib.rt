@@ -1,0 +1,23 @@
+//! What the statements of STL do: what they see, what a stored statement means, and its effect, by groups.
+#![tactic(auto)]
+
+mod areas;
+mod bits;
+mod clocks;
+mod counting;
+mod execute;
+mod instruction;
+mod jumps;
+mod laws;
+mod moves;
+mod numbers;
+mod reading;
+
+pub use areas::{Memory, Registers};
+pub use instruction::{
+    AccuInstruction, BitInstruction, BitPlace, ByteArea, CounterOperation, Flow, GroupInstruction,
+    Instruction, JumpInstruction, MoveInstruction, NumberInstruction, StatusInstruction,
+    TimedOperation, TimerOperation, ValuePlace, Width, WordInstruction,
+};
+pub use laws::played_statements_mean_instructions;
+pub use reading::instruction_of;
