@@ -5,8 +5,8 @@ use Rattle.std.specs.List.{filter_map, cons_option, AllPairs}
 use Rattle.std.proofs.lemmas.Bool.Decides.{nat_tests}
 use Rattle.std.proofs.Math.Nat.{mul-mod_left, mul-le-mul_left}
 use Rattle.s7_base.specs.Blocks.{Program}
-use Rattle.s7_base.specs.declared.entry.Answer.{Answer}
-use Rattle.s7_base.specs.declared.entry.Answer.TheVariants as answers
+use Rattle.s7_events.specs.declared.entry.Answer.{Answer}
+use Rattle.s7_events.specs.declared.entry.Answer.TheVariants as answers
 use Rattle.plant_script.specs.Plan.{Plan}
 use Rattle.plant_script.specs.declared.plan.Event.{Event}
 use Rattle.plant_script.specs.declared.plan.What.{What}

@@ -1,12 +1,12 @@
 -- Which alarms become due at a moment.
 use Rattle.std.specs.Prelude.{ℕ, ◌%◌, ◌==◌, Bool, ◌&&◌, ◌||◌, if◌then◌else◌, nat_lt, nat_le, true, List, [], ◌∷◌, ◌++◌, map, filter, Option, Some, None, is_some}
 use Rattle.std.specs.List.{filter_map}
-use Rattle.s7_base.specs.Priorities.{is_process}
+use Rattle.s7_events.specs.Priorities.{is_process}
 use Rattle.s7_base.specs.Blocks.{Program, code_of}
 use Rattle.s7_base.specs.declared.blocks.CodeKind.TheVariants.{Ob}
-use Rattle.s7_base.specs.declared.entry.Side.TheVariants.{A, B}
-use Rattle.s7_base.specs.declared.entry.Answer.{Answer}
-use Rattle.s7_base.specs.declared.entry.Answer.TheVariants as answers
+use Rattle.s7_events.specs.declared.entry.Side.TheVariants.{A, B}
+use Rattle.s7_events.specs.declared.entry.Answer.{Answer}
+use Rattle.s7_events.specs.declared.entry.Answer.TheVariants as answers
 use Rattle.plant_script.specs.Plan.{Plan}
 use Rattle.plant_script.specs.declared.plan.Event.{Event}
 use Rattle.plant_script.specs.declared.plan.What.{What}

@@ -2,8 +2,8 @@
 use Rattle.std.specs.Prelude.{◌≡◌, ℕ, ◌+◌, ◌*◌, ◌<◌, ◌≤◌, ◌==◌, ◌↔◌, Bool, false, if◌then◌else◌, List, [], ◌∷◌, IsTrue}
 use Rattle.std.specs.List.{AllPairs}
 use Rattle.s7_base.specs.Blocks.{Program}
-use Rattle.s7_base.specs.declared.entry.Answer.{Answer}
-use Rattle.s7_base.specs.declared.entry.Answer.TheVariants.{Alarm}
+use Rattle.s7_events.specs.declared.entry.Answer.{Answer}
+use Rattle.s7_events.specs.declared.entry.Answer.TheVariants.{Alarm}
 use Rattle.plant_script.specs.Plan.{Plan}
 use Rattle.alarm_queue.specs.declared.alarm.DueAlarm.{DueAlarm}
 use Rattle.alarm_queue.specs.declared.alarm.Source.{Source}

@@ -1,7 +1,7 @@
 -- Which alarms wait, in the order in which they are answered.
 use Rattle.std.specs.Prelude.{◌≡◌, ℕ, ◌==◌, Bool, false, ◌&&◌, ◌||◌, if◌then◌else◌, nat_lt, List, [], ◌∷◌}
 use Rattle.std.specs.List.{list_any, AllPairs}
-use Rattle.s7_base.specs.Priorities.{is_cyclic, priority_of}
+use Rattle.s7_events.specs.Priorities.{is_cyclic, priority_of}
 use Rattle.alarm_queue.specs.declared.alarm.DueAlarm.{DueAlarm}
 use Rattle.alarm_queue.specs.declared.alarm.Source.{Source}
 use Rattle.alarm_queue.specs.declared.alarm.Source.TheVariants.{Cpu, Module, Line}

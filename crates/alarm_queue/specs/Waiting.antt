@@ -1,9 +1,9 @@
 -- Which alarms wait after each entry of a record.
 use Rattle.std.specs.Prelude.{◌≡◌, ℕ, ◌+◌, ◌≤◌, ◌==◌, Bool, false, ◌||◌, if◌then◌else◌, nat_lt, List, [], ◌∷◌, All, Option, Some, None, length, IsTrue}
 use Rattle.std.specs.List.{list_any}
-use Rattle.s7_base.specs.Priorities.{is_cyclic}
-use Rattle.s7_base.specs.declared.entry.Answer.{Answer}
-use Rattle.s7_base.specs.declared.entry.Answer.TheVariants.{Alarm}
+use Rattle.s7_events.specs.Priorities.{is_cyclic}
+use Rattle.s7_events.specs.declared.entry.Answer.{Answer}
+use Rattle.s7_events.specs.declared.entry.Answer.TheVariants.{Alarm}
 use Rattle.alarm_queue.specs.declared.alarm.DueAlarm.{DueAlarm}
 use Rattle.alarm_queue.specs.declared.alarm.Source.{Source}
 use Rattle.alarm_queue.specs.declared.alarm.Source.TheVariants.{Cpu, Module}

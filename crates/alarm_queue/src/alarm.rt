@@ -1,6 +1,6 @@
 //! An alarm that is due, and which of two goes first.
 ghost use Rattle.std.specs.Prelude.{◌≡◌, IsTrue};
-ghost use Rattle.s7_base.specs.Priorities.{has_priority};
+ghost use Rattle.s7_events.specs.Priorities.{has_priority};
 ghost use Rattle.alarm_queue.specs.Order.{line_of, due_alarm, is_before, is_same, waits_once};
 
 use s7_base::priority;

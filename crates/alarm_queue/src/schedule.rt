@@ -1,7 +1,7 @@
 //! What makes alarms due: the lines of a plant script, the periods of the cyclic OBs, and losses and returns of sides.
 ghost use Rattle.std.specs.Prelude.{◌≡◌, ℕ, ◌≤◌, ◌+◌, false, [], All, IfOk, IsTrue, length, map, filter};
 ghost use Rattle.std.specs.List.{filter_map};
-ghost use Rattle.s7_base.specs.Priorities.{is_cyclic};
+ghost use Rattle.s7_events.specs.Priorities.{is_cyclic};
 ghost use Rattle.alarm_queue.specs.Order.{add_all, waits_once};
 ghost use Rattle.alarm_queue.specs.Due.{alarm_of, is_of_line, period_of, ends_period, cyclic_obs, is_loaded, lines_due, cyclic_due, redundancy_info};
 ghost use Rattle.alarm_queue.specs.Cursor.{IsPast};

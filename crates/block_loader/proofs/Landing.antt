@@ -8,7 +8,7 @@ use Rattle.std.proofs.Math.Seq.{drop-append-add, set-append_seam}
 use Rattle.std.proofs.lemmas.Bool.{and_from, le-leb, ltb-false, not-false, or_parts, or_right}
 use Rattle.std.proofs.lemmas.List.{length-map}
 use Rattle.std.proofs.lemmas.List.Elements.{All-nil, All-cons, All-head, All-tail}
-use Rattle.s7_base.specs.declared.operands.OperandArea.TheVariants.{Target}
+use Rattle.instruction_set.specs.declared.operands.OperandArea.TheVariants.{Target}
 use Rattle.s7_base.specs.declared.statement.Statement.{Statement}
 use Rattle.s7_base.specs.Operands.{is_in}
 use Rattle.s7_base.specs.Statements.{is_statement, all_land, lands, is_target, is_list, is_ju, is_jl}

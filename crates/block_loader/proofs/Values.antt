@@ -2,13 +2,13 @@
 use Rattle.std.proofs.Common.{◌≡◌, ℕ, Bool, true, false, ◌&&◌, ◌||◌, subst, sym}
 use Rattle.std.specs.Prelude.{Option, Some, None, ◌==◌, nat_lt, nat_le}
 use Rattle.std.proofs.lemmas.Bool.{eqb-true}
-use Rattle.s7_base.specs.declared.operands.OperandArea.TheVariants as areas
-use Rattle.s7_base.specs.declared.operands.OperandKind.{OperandKind}
-use Rattle.s7_base.specs.declared.operands.OperandKind.TheVariants as kinds
+use Rattle.instruction_set.specs.declared.operands.OperandArea.TheVariants as areas
+use Rattle.instruction_set.specs.declared.operands.OperandKind.{OperandKind}
+use Rattle.instruction_set.specs.declared.operands.OperandKind.TheVariants as kinds
 use Rattle.s7_base.specs.declared.statement.Statement.{Statement}
-use Rattle.s7_base.specs.declared.table.InstructionRow.{InstructionRow}
+use Rattle.instruction_set.specs.declared.table.InstructionRow.{InstructionRow}
 use Rattle.s7_base.specs.Operands.{allows, is_in, is_memory, is_timer_or_counter, is_up_to, is_exactly, is_constant, is_about_data, is_within, unit_bytes}
-use Rattle.s7_base.specs.Rows.{row_of}
+use Rattle.instruction_set.specs.Rows.{row_of}
 use Rattle.s7_base.specs.Statements.{is_of_row, is_statement}
 use Rattle.block_loader.specs.Load.{with_target}
 

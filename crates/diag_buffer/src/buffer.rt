@@ -5,7 +5,7 @@ ghost use Rattle.diag_buffer.specs.Newest.{newest};
 
 use crate::Note;
 use circular_buffer::HeapCircularBuffer;
-use s7_base::{DiagCode, NoMemory};
+use s7_events::{DiagCode, NoMemory};
 use std::alloc::Global;
 use std::marker::Model;
 

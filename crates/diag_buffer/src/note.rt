@@ -1,6 +1,6 @@
 //! One entry of the diagnostic buffer.
 
-use s7_base::DiagCode;
+use s7_events::DiagCode;
 
 /// A diagnostic entry: its moment in milliseconds, and what it says.
 #[derive(Clone, Copy, Debug, PartialEq, Eq)]

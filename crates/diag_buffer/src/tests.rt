@@ -1,5 +1,5 @@
 use super::*;
-use s7_base::DiagCode;
+use s7_events::DiagCode;
 use std::test::Fail;
 
 /// Of 130 entries the newest 120 are kept, from entry 10 on.

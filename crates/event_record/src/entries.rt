@@ -2,7 +2,7 @@
 ghost use Rattle.std.specs.Prelude.{◌≡◌, ◌<◌, ◌≤◌, ◌∷◌, [], ◌++◌, length, slice_get, Some, IfOk, IsTrue, ◌↔◌};
 ghost use Rattle.event_record.specs.Log.{Log};
 
-use s7_base::{Entry, NoMemory};
+use s7_events::{Entry, NoMemory};
 use std::alloc::Global;
 use std::marker::Model;
 

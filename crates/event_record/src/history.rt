@@ -4,7 +4,7 @@
 /// whole: what is in it is the affair of the type that implements this trait.
 pub trait History {
     ghost use Rattle.std.specs.Prelude.{List};
-    ghost use Rattle.s7_base.specs.declared.entry.Side.{Side};
+    ghost use Rattle.s7_events.specs.declared.entry.Side.{Side};
 
     ghost Entry: { Type 0 };
 

@@ -1,7 +1,7 @@
 //! Pieces of a text that is being made.
 ghost use Rattle.std.specs.Prelude.{◌≡◌, ◌++◌, IfOk, string_bytes};
 
-use s7_base::NoMemory;
+use s7_events::NoMemory;
 
 /// Adds a piece to a text. Err where memory runs out.
 pub fn push_text(text: &mut String, piece: &str) -> Result<(), NoMemory>

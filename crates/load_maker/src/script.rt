@@ -4,7 +4,7 @@ ghost use Rattle.load_maker.specs.Lines.{text_of};
 ghost use Rattle.load_maker.specs.Script.{module_lines, input_lines, alarm_lines, loss_lines, moment_lines, all_moment_lines, end_lines, script_text};
 
 use crate::lines::push_text;
-use s7_base::NoMemory;
+use s7_events::NoMemory;
 use std::alloc::Global;
 
 /// Adds one input byte and one output byte.

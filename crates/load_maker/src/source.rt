@@ -4,7 +4,7 @@ ghost use Rattle.load_maker.specs.Lines.{text_of};
 ghost use Rattle.load_maker.specs.Source.{organization_block_lines, function_lines, all_function_lines, source_text};
 
 use crate::lines::push_text;
-use s7_base::NoMemory;
+use s7_events::NoMemory;
 use std::alloc::Global;
 
 /// Adds OB1, which copies the input to the output and counts its cycles in MW 0, and OB40, which counts the alarms in

@@ -4,8 +4,8 @@ use Rattle.std.specs.Prelude.{slice_get, if◌then◌else◌}
 use Rattle.std.proofs.lemmas.Bool.{cond_both, ltb-true}
 use Rattle.s7_base.specs.declared.statement.Statement.{Statement}
 use Rattle.s7_base.specs.declared.blocks.BlockRef.{BlockRef}
-use Rattle.s7_base.specs.declared.entry.Request.{Request}
-use Rattle.s7_base.specs.declared.entry.Answer.{Answer}
+use Rattle.s7_events.specs.declared.entry.Request.{Request}
+use Rattle.s7_events.specs.declared.entry.Answer.{Answer}
 use Rattle.s7_base.specs.Blocks.{Program}
 use Rattle.statement_effects.specs.declared.areas.Memory.{Memory}
 use Rattle.mc_machine.specs.declared.places.Level.{Level}

@@ -2,9 +2,9 @@
 use Rattle.std.proofs.Common.{◌≡◌, ℕ, ◌+◌, ◌-◌, ◌<◌, true, List, [], ◌∷◌, ◌++◌, length, drop, Option, Some, None, refl, sym, ap, ◌∙◌, arith, append_assoc, append-nil, length-append, length-drop}
 use Rattle.std.proofs.lemmas.List.{drop-append-le, drop-drop}
 use Rattle.std.specs.Prelude.{if◌then◌else◌}
-use Rattle.s7_base.specs.declared.entry.Request.{Request}
-use Rattle.s7_base.specs.declared.entry.Answer.{Answer}
-use Rattle.s7_base.specs.declared.diagnostics.DiagCode.{DiagCode}
+use Rattle.s7_events.specs.declared.entry.Request.{Request}
+use Rattle.s7_events.specs.declared.entry.Answer.{Answer}
+use Rattle.s7_events.specs.declared.diagnostics.DiagCode.{DiagCode}
 use Rattle.s7_base.specs.Blocks.{Program}
 use Rattle.statement_effects.specs.declared.areas.Memory.{Memory}
 use Rattle.mc_machine.specs.declared.places.Note.{Note}

@@ -1,6 +1,6 @@
 -- The definitions, computed.
 use Rattle.std.proofs.Common.{◌≡◌, refl}
-use Rattle.s7_base.specs.Rows.{row_of}
+use Rattle.instruction_set.specs.Rows.{row_of}
 use Rattle.mc_machine.specs.Meaning.{asked, body, body_within}
 use Rattle.mc_machine.specs.Rung.{rung, rung_answers, rung_requests}
 

@@ -1,8 +1,8 @@
 -- A block goes by itself up to its end, and then what follows.
 use Rattle.std.proofs.Common.{◌≡◌, ℕ, zero, suc, Bool, true, false, List, [], ◌∷◌, Some, refl, sym, ap, ◌∙◌}
 use Rattle.std.specs.Prelude.{if◌then◌else◌}
-use Rattle.s7_base.specs.declared.entry.Request.{Request}
-use Rattle.s7_base.specs.declared.entry.Answer.{Answer}
+use Rattle.s7_events.specs.declared.entry.Request.{Request}
+use Rattle.s7_events.specs.declared.entry.Answer.{Answer}
 use Rattle.mc_machine.specs.declared.places.Place.{Place}
 use Rattle.mc_machine.specs.declared.places.Place.TheVariants.{AtStop}
 use Rattle.statement_effects.specs.Areas.{with_registers}

@@ -1,6 +1,6 @@
 -- The meaning of a place, read without what follows its block.
 use Rattle.std.specs.Prelude.{◌≡◌, List}
-use Rattle.s7_base.specs.declared.entry.Answer.{Answer}
+use Rattle.s7_events.specs.declared.entry.Answer.{Answer}
 use Rattle.mc_machine.specs.declared.places.Place.{Place}
 use Rattle.mc_machine.specs.Meaning.{State, End, Waits, Stopped, Left, Undefined, Rest, turn, body}
 

@@ -3,21 +3,21 @@ use Rattle.std.specs.Prelude.{ℕ, zero, suc, ◌+◌, ◌-◌, ◌*◌, ◌==�
 use Rattle.s7_base.specs.declared.statement.Statement.{Statement}
 use Rattle.s7_base.specs.declared.blocks.BlockRef.{BlockRef}
 use Rattle.s7_base.specs.declared.blocks.CodeKind.TheVariants.{Ob}
-use Rattle.s7_base.specs.declared.entry.Side.{Side}
-use Rattle.s7_base.specs.declared.entry.Loss.{Loss}
-use Rattle.s7_base.specs.declared.entry.Loss.TheVariants.{Failed, Suspect}
-use Rattle.s7_base.specs.declared.entry.Ask.{Ask}
-use Rattle.s7_base.specs.declared.entry.Ask.TheVariants as asks
-use Rattle.s7_base.specs.declared.entry.Request.{Request}
-use Rattle.s7_base.specs.declared.entry.Answer.{Answer}
-use Rattle.s7_base.specs.declared.entry.Answer.TheVariants as answers
-use Rattle.s7_base.specs.declared.diagnostics.DiagCode.{DiagCode}
-use Rattle.s7_base.specs.declared.diagnostics.DiagCode.TheVariants as notes
+use Rattle.s7_events.specs.declared.entry.Side.{Side}
+use Rattle.s7_events.specs.declared.entry.Loss.{Loss}
+use Rattle.s7_events.specs.declared.entry.Loss.TheVariants.{Failed, Suspect}
+use Rattle.s7_events.specs.declared.entry.Ask.{Ask}
+use Rattle.s7_events.specs.declared.entry.Ask.TheVariants as asks
+use Rattle.s7_events.specs.declared.entry.Request.{Request}
+use Rattle.s7_events.specs.declared.entry.Answer.{Answer}
+use Rattle.s7_events.specs.declared.entry.Answer.TheVariants as answers
+use Rattle.s7_events.specs.declared.diagnostics.DiagCode.{DiagCode}
+use Rattle.s7_events.specs.declared.diagnostics.DiagCode.TheVariants as notes
 use Rattle.s7_base.specs.Blocks.{Code, Program, code_of}
-use Rattle.s7_base.specs.Fitting.{fits}
-use Rattle.s7_base.specs.Priorities.{priority_of}
-use Rattle.s7_base.specs.declared.entry.StopCode.{StopCode}
-use Rattle.s7_base.specs.declared.entry.StopCode.TheVariants as stops
+use Rattle.s7_events.specs.Fitting.{fits}
+use Rattle.s7_events.specs.Priorities.{priority_of}
+use Rattle.s7_events.specs.declared.entry.StopCode.{StopCode}
+use Rattle.s7_events.specs.declared.entry.StopCode.TheVariants as stops
 use Rattle.statement_effects.specs.declared.areas.Memory.{Memory}
 use Rattle.mc_machine.specs.declared.places.Level.{Level}
 use Rattle.mc_machine.specs.declared.places.Mode.{Mode}

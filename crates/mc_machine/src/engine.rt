@@ -1,11 +1,11 @@
 //! What a running machine holds: it runs from request to request.
 ghost use Rattle.std.specs.Prelude.{◌≡◌, ◌≢◌, ℕ, ◌+◌, ◌-◌, ◌<◌, ◌≤◌, ◌++◌, ◌∷◌, [], List, length, slice_get, IsTrue, IfSome, OnSome, ◌^◌, false, Option, Some, None};
 ghost use Rattle.s7_base.specs.Blocks.{Program};
-ghost use Rattle.s7_base.specs.declared.entry.Answer.{Answer};
+ghost use Rattle.s7_events.specs.declared.entry.Answer.{Answer};
 ghost use Rattle.s7_base.specs.declared.blocks.BlockRef.{BlockRef};
 ghost use Rattle.mc_machine.specs.Meaning.{statements_of, turn_of, runs, flows, jump_among, answered, takes, stops_cpu, begins_main, main_block, level_of, cycle_frame, lost_note, again_mode, again, resumed, timed_at, instruction_at, Leaves, Waits, Stopped, std, request_of, stop_request};
 ghost use Rattle.mc_machine.specs.Stands.{Running, state_of, newest, with_newest, StandsFor, IsMoved, Reacts, Follows, IsHigh, IsSound, IsValid, IsAskedAt, AsksAt, Keeps, IsTaken, IsDated, IsAsked, GoesOn};
-ghost use Rattle.s7_base.specs.declared.entry.Ask.{Ask};
+ghost use Rattle.s7_events.specs.declared.entry.Ask.{Ask};
 ghost use Rattle.mc_machine.specs.EngineView.{config_of, running_of};
 
 use crate::{Frame, Level, Mode, Note, Place};

@@ -2,15 +2,15 @@
 use Rattle.std.proofs.Common.{◌≡◌, ◌∙◌, ℕ, ◌+◌, ◌<◌, Bool, true, false, [], ◌∷◌, ◌++◌, length, refl, ap, sym, subst, arith, length-append, Option, Some, None, inl, inr, MatchBool}
 use Rattle.std.specs.Prelude.{if◌then◌else◌, ◌&&◌, ◌||◌, not}
 use Rattle.std.proofs.lemmas.List.{append-nil}
-use Rattle.s7_base.specs.declared.entry.Side.{Side}
-use Rattle.s7_base.specs.declared.entry.Side.TheVariants.{A, B}
-use Rattle.s7_base.specs.declared.entry.Loss.TheVariants.{Failed}
-use Rattle.s7_base.specs.declared.entry.Ask.{Ask}
-use Rattle.s7_base.specs.declared.entry.Ask.TheVariants as asks
-use Rattle.s7_base.specs.declared.entry.Request.{Request}
-use Rattle.s7_base.specs.declared.entry.Answer.{Answer}
-use Rattle.s7_base.specs.declared.entry.Answer.TheVariants.{Lost, CpuStop}
-use Rattle.s7_base.specs.declared.entry.Entry.{Entry}
+use Rattle.s7_events.specs.declared.entry.Side.{Side}
+use Rattle.s7_events.specs.declared.entry.Side.TheVariants.{A, B}
+use Rattle.s7_events.specs.declared.entry.Loss.TheVariants.{Failed}
+use Rattle.s7_events.specs.declared.entry.Ask.{Ask}
+use Rattle.s7_events.specs.declared.entry.Ask.TheVariants as asks
+use Rattle.s7_events.specs.declared.entry.Request.{Request}
+use Rattle.s7_events.specs.declared.entry.Answer.{Answer}
+use Rattle.s7_events.specs.declared.entry.Answer.TheVariants.{Lost, CpuStop}
+use Rattle.s7_events.specs.declared.entry.Entry.{Entry}
 use Rattle.mc_machine.specs.Meaning.{std, next_of, asked}
 use Rattle.mc_machine.proofs.Asked.{asked_push}
 use Rattle.plant_script.specs.Plan.{Plan}
@@ -19,7 +19,7 @@ use Rattle.pair_core.specs.declared.standing.Standing.{Standing}
 use Rattle.pair_core.specs.Sides.{same_side, runs, first_standing, standing, after, after_answer}
 use Rattle.pair_core.specs.Cuts.{is_cut, is_late}
 use Rattle.pair_core.specs.Stops.{stop_from}
-use Rattle.s7_base.specs.declared.entry.StopCode.TheVariants.{Cycle}
+use Rattle.s7_events.specs.declared.entry.StopCode.TheVariants.{Cycle}
 use Rattle.pair_core.specs.Lawful.{IsPlainAnswer, IsMonitoredAnswer, IsLawfulAnswer, MayStand, someone_stands}
 use Rattle.pair_core.specs.Showings.{is_output, shown_of}
 use Rattle.pair_core.specs.Played.{answers_of}

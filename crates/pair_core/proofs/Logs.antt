@@ -3,15 +3,15 @@ use Rattle.std.proofs.Common.{◌≡◌, ◌∙◌, ℕ, ◌+◌, ◌-◌, ◌==
 use Rattle.std.specs.Prelude.{if◌then◌else◌, ◌⊎◌, nat_lt, ◌&&◌, not}
 use Rattle.std.proofs.lemmas.Bool.Decides.{nat_tests}
 use Rattle.std.proofs.lemmas.List.{append-nil}
-use Rattle.s7_base.specs.declared.entry.Side.{Side}
-use Rattle.s7_base.specs.declared.entry.Side.TheVariants.{A, B}
-use Rattle.s7_base.specs.declared.entry.Ask.{Ask}
-use Rattle.s7_base.specs.declared.entry.Ask.TheVariants.{Stop}
-use Rattle.s7_base.specs.declared.entry.Ask.TheVariants as asks
-use Rattle.s7_base.specs.declared.entry.StopCode.{StopCode}
-use Rattle.s7_base.specs.declared.entry.Answer.{Answer}
-use Rattle.s7_base.specs.declared.entry.Answer.TheVariants.{Done, CpuStop}
-use Rattle.s7_base.specs.declared.entry.Entry.{Entry}
+use Rattle.s7_events.specs.declared.entry.Side.{Side}
+use Rattle.s7_events.specs.declared.entry.Side.TheVariants.{A, B}
+use Rattle.s7_events.specs.declared.entry.Ask.{Ask}
+use Rattle.s7_events.specs.declared.entry.Ask.TheVariants.{Stop}
+use Rattle.s7_events.specs.declared.entry.Ask.TheVariants as asks
+use Rattle.s7_events.specs.declared.entry.StopCode.{StopCode}
+use Rattle.s7_events.specs.declared.entry.Answer.{Answer}
+use Rattle.s7_events.specs.declared.entry.Answer.TheVariants.{Done, CpuStop}
+use Rattle.s7_events.specs.declared.entry.Entry.{Entry}
 use Rattle.plant_script.specs.Plan.{IsPlan}
 use Rattle.pair_core.specs.Sides.{same_side, other_side, runs, first_standing, standing_from}
 use Rattle.pair_core.specs.Cuts.{is_cut, is_late}

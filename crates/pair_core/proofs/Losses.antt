@@ -1,22 +1,22 @@
 -- Who was lost, and when, where no side comes back.
 use Rattle.std.proofs.Common.{◌≡◌, ◌∙◌, ℕ, ◌+◌, Bool, true, false, List, [], ◌∷◌, ◌++◌, length, refl, ap, add-zero, Option, Some, None, MatchBool}
 use Rattle.std.specs.Prelude.{if◌then◌else◌, ◌&&◌}
-use Rattle.s7_base.specs.declared.entry.Side.{Side}
-use Rattle.s7_base.specs.declared.entry.Side.TheVariants.{A, B}
-use Rattle.s7_base.specs.declared.entry.Loss.TheVariants.{Failed}
-use Rattle.s7_base.specs.declared.entry.Ask.{Ask}
-use Rattle.s7_base.specs.declared.entry.Ask.TheVariants as asks
-use Rattle.s7_base.specs.declared.entry.Answer.{Answer}
-use Rattle.s7_base.specs.declared.entry.Answer.TheVariants.{Lost, Back, CpuStop}
-use Rattle.s7_base.specs.declared.entry.Entry.{Entry}
-use Rattle.s7_base.specs.declared.entry.StopCode.{StopCode}
+use Rattle.s7_events.specs.declared.entry.Side.{Side}
+use Rattle.s7_events.specs.declared.entry.Side.TheVariants.{A, B}
+use Rattle.s7_events.specs.declared.entry.Loss.TheVariants.{Failed}
+use Rattle.s7_events.specs.declared.entry.Ask.{Ask}
+use Rattle.s7_events.specs.declared.entry.Ask.TheVariants as asks
+use Rattle.s7_events.specs.declared.entry.Answer.{Answer}
+use Rattle.s7_events.specs.declared.entry.Answer.TheVariants.{Lost, Back, CpuStop}
+use Rattle.s7_events.specs.declared.entry.Entry.{Entry}
+use Rattle.s7_events.specs.declared.entry.StopCode.{StopCode}
 use Rattle.plant_script.specs.Plan.{Plan}
 use Rattle.pair_core.specs.Monitor.{watch_by, is_overdue}
 use Rattle.pair_core.specs.declared.standing.Standing.{Standing}
 use Rattle.pair_core.specs.Sides.{same_side, runs, after, after_answer, standing_from}
 use Rattle.pair_core.specs.Cuts.{is_cut}
 use Rattle.pair_core.specs.Stops.{stop_by}
-use Rattle.s7_base.specs.declared.entry.StopCode.TheVariants.{Cycle}
+use Rattle.s7_events.specs.declared.entry.StopCode.TheVariants.{Cycle}
 use Rattle.pair_core.specs.Lawful.{IsPlainAnswer, IsMonitoredAnswer, IsLawfulAnswer, LawfulFrom}
 use Rattle.pair_core.specs.Losses.{loses_by, lost_from}
 use Rattle.pair_core.proofs.Snoc.{shift}

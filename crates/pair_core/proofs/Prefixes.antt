@@ -2,15 +2,15 @@
 use Rattle.std.proofs.Common.{◌≡◌, ◌∙◌, ℕ, ◌+◌, Bool, true, false, List, [], ◌∷◌, ◌++◌, refl, ap, sym, inl, inr}
 use Rattle.std.specs.Prelude.{◌⊎◌, ◌&&◌, Option, None, MatchBool}
 use mathlib.Core.List.{IsPrefix}
-use Rattle.s7_base.specs.declared.entry.Side.TheVariants.{A, B}
-use Rattle.s7_base.specs.declared.entry.StopCode.{StopCode}
-use Rattle.s7_base.specs.declared.entry.Ask.{Ask}
-use Rattle.s7_base.specs.declared.entry.Ask.TheVariants as asks
-use Rattle.s7_base.specs.declared.entry.Answer.{Answer}
-use Rattle.s7_base.specs.declared.entry.Answer.TheVariants.{Lost, CpuStop}
-use Rattle.s7_base.specs.declared.entry.Loss.TheVariants.{Failed}
-use Rattle.s7_base.specs.declared.entry.Request.{Request}
-use Rattle.s7_base.specs.declared.entry.Entry.{Entry}
+use Rattle.s7_events.specs.declared.entry.Side.TheVariants.{A, B}
+use Rattle.s7_events.specs.declared.entry.StopCode.{StopCode}
+use Rattle.s7_events.specs.declared.entry.Ask.{Ask}
+use Rattle.s7_events.specs.declared.entry.Ask.TheVariants as asks
+use Rattle.s7_events.specs.declared.entry.Answer.{Answer}
+use Rattle.s7_events.specs.declared.entry.Answer.TheVariants.{Lost, CpuStop}
+use Rattle.s7_events.specs.declared.entry.Loss.TheVariants.{Failed}
+use Rattle.s7_events.specs.declared.entry.Request.{Request}
+use Rattle.s7_events.specs.declared.entry.Entry.{Entry}
 use Rattle.s7_base.specs.Blocks.{Program}
 use Rattle.mc_machine.specs.Meaning.{asked_after}
 use Rattle.plant_script.specs.Plan.{Plan}
@@ -18,7 +18,7 @@ use Rattle.pair_core.specs.declared.standing.Standing.{Standing}
 use Rattle.pair_core.specs.Cuts.{is_cut}
 use Rattle.pair_core.specs.Sides.{first_standing, after}
 use Rattle.pair_core.specs.Stops.{stop_by}
-use Rattle.s7_base.specs.declared.entry.StopCode.TheVariants.{Cycle}
+use Rattle.s7_events.specs.declared.entry.StopCode.TheVariants.{Cycle}
 use Rattle.pair_core.specs.Monitor.{watch_by, is_overdue}
 use Rattle.pair_core.specs.Lawful.{IsPlainAnswer, IsMonitoredAnswer, IsLawfulAnswer, LawfulFrom}
 use Rattle.pair_core.specs.Played.{requests_of, answers_of}

@@ -3,15 +3,15 @@ use Rattle.std.proofs.Common.{◌≡◌, ◌∙◌, ℕ, ◌+◌, ◌≤◌, Boo
 use Rattle.std.specs.Prelude.{if◌then◌else◌, nat_lt, ◌&&◌, unwrap_or}
 use Rattle.std.proofs.lemmas.Bool.Decides.{nat_tests}
 use Rattle.std.proofs.lemmas.List.{take-map}
-use Rattle.s7_base.specs.declared.entry.Side.{Side}
-use Rattle.s7_base.specs.declared.entry.Side.TheVariants.{A, B}
-use Rattle.s7_base.specs.declared.entry.Loss.TheVariants.{Failed, Suspect}
-use Rattle.s7_base.specs.declared.entry.Ask.{Ask}
-use Rattle.s7_base.specs.declared.entry.Ask.TheVariants as asks
-use Rattle.s7_base.specs.declared.entry.Answer.{Answer}
-use Rattle.s7_base.specs.declared.entry.Answer.TheVariants.{Lost, Back, CpuStop}
-use Rattle.s7_base.specs.declared.entry.Entry.{Entry}
-use Rattle.s7_base.specs.declared.entry.StopCode.{StopCode}
+use Rattle.s7_events.specs.declared.entry.Side.{Side}
+use Rattle.s7_events.specs.declared.entry.Side.TheVariants.{A, B}
+use Rattle.s7_events.specs.declared.entry.Loss.TheVariants.{Failed, Suspect}
+use Rattle.s7_events.specs.declared.entry.Ask.{Ask}
+use Rattle.s7_events.specs.declared.entry.Ask.TheVariants as asks
+use Rattle.s7_events.specs.declared.entry.Answer.{Answer}
+use Rattle.s7_events.specs.declared.entry.Answer.TheVariants.{Lost, Back, CpuStop}
+use Rattle.s7_events.specs.declared.entry.Entry.{Entry}
+use Rattle.s7_events.specs.declared.entry.StopCode.{StopCode}
 use Rattle.s7_base.specs.Blocks.{Program}
 use Rattle.mc_machine.specs.Stands.{Running, IsRunning, Stands}
 use Rattle.plant_script.specs.Plan.{Plan}
@@ -24,7 +24,7 @@ use Rattle.pair_core.specs.declared.standing.Standing.{Standing}
 use Rattle.pair_core.specs.Sides.{runs, first_standing, after}
 use Rattle.pair_core.specs.Cuts.{is_cut}
 use Rattle.pair_core.specs.Stops.{stop_by}
-use Rattle.s7_base.specs.declared.entry.StopCode.TheVariants.{Cycle}
+use Rattle.s7_events.specs.declared.entry.StopCode.TheVariants.{Cycle}
 use Rattle.pair_core.specs.Lawful.{IsPlainAnswer, IsMonitoredAnswer, IsLawfulAnswer, LawfulFrom}
 use Rattle.pair_core.specs.Losses.{loses_by, lost_from, lost_at}
 use Rattle.pair_core.specs.Lives.{Stretch, StretchEnd, with_run, Change, loses, keeps, change_of, ends_by, began_after, stretches_from, EndsAt, IsNext, IsLife, AreLivesOf, AreLives, place_of}

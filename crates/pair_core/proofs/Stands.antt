@@ -1,6 +1,6 @@
 -- When a subsystem stands where a part says.
 use Rattle.std.proofs.Common.{◌∙◌, List, take}
-use Rattle.s7_base.specs.declared.entry.Entry.{Entry}
+use Rattle.s7_events.specs.declared.entry.Entry.{Entry}
 use Rattle.s7_base.specs.Blocks.{Program}
 use Rattle.subsystem.specs.Part.{Part}
 use Rattle.pair_core.specs.declared.own.Own.{Own}

@@ -3,12 +3,12 @@ use Rattle.std.proofs.Common.{arith, length-append, ◌≡◌, ◌∙◌, ℕ, �
 use Rattle.std.proofs.lemmas.List.{take-append-drop, take_more, take_all, length-map, length-take-le}
 use Rattle.std.proofs.lemmas.Option.{slice_get_within, get_or_from_slice_get}
 use Rattle.std.proofs.Math.Seq.{drop-cons}
-use Rattle.s7_base.specs.declared.entry.Side.{Side}
-use Rattle.s7_base.specs.declared.entry.Side.TheVariants.{A, B}
-use Rattle.s7_base.specs.declared.entry.Request.{Request}
-use Rattle.s7_base.specs.declared.entry.Answer.{Answer}
-use Rattle.s7_base.specs.declared.entry.Entry.{Entry}
-use Rattle.s7_base.specs.declared.entry.StopCode.{StopCode}
+use Rattle.s7_events.specs.declared.entry.Side.{Side}
+use Rattle.s7_events.specs.declared.entry.Side.TheVariants.{A, B}
+use Rattle.s7_events.specs.declared.entry.Request.{Request}
+use Rattle.s7_events.specs.declared.entry.Answer.{Answer}
+use Rattle.s7_events.specs.declared.entry.Entry.{Entry}
+use Rattle.s7_events.specs.declared.entry.StopCode.{StopCode}
 use Rattle.s7_base.specs.Blocks.{Program}
 use Rattle.mc_machine.specs.Meaning.{std, next_of, asked_after, takes, is_dated, stops_cpu}
 use Rattle.mc_machine.specs.Stands.{Running, CanAsk, CanTake, CanGoOn, IsTaken, GoesOn, WaitsAt, Stands, CpuWaits}

@@ -1,8 +1,8 @@
 -- A visit of a good world can be done, and leaves a good world; the first world is good.
 use Rattle.std.proofs.Common.{◌≡◌, ℕ, ◌+◌, true, List, [], refl, sym, subst, arith, inl, is_some}
-use Rattle.s7_base.specs.declared.entry.Side.{Side}
-use Rattle.s7_base.specs.declared.entry.Side.TheVariants.{A, B}
-use Rattle.s7_base.specs.declared.entry.Entry.{Entry}
+use Rattle.s7_events.specs.declared.entry.Side.{Side}
+use Rattle.s7_events.specs.declared.entry.Side.TheVariants.{A, B}
+use Rattle.s7_events.specs.declared.entry.Entry.{Entry}
 use Rattle.plant_script.specs.Plan.{IsPlan}
 use Rattle.pair_core.specs.World.{Setup, World, choose, step, first_world, part, ended}
 use Rattle.pair_core.specs.Kept.{CanAct}

@@ -1,6 +1,6 @@
 -- The tail of a CPU.
 use Rattle.std.specs.Prelude.{ℕ, List, [], map, Option, Some, None}
-use Rattle.s7_base.specs.declared.diagnostics.DiagCode.{DiagCode}
+use Rattle.s7_events.specs.declared.diagnostics.DiagCode.{DiagCode}
 use Rattle.statement_effects.specs.declared.areas.Memory.{Memory}
 use Rattle.mc_machine.specs.declared.places.Note.{Note}
 use Rattle.mc_machine.specs.Meaning.{State}

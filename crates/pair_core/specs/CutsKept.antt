@@ -1,7 +1,7 @@
 -- What a script's lines made of both sides, as the moments go on.
 use Rattle.std.specs.Prelude.{◌≡◌, ℕ, ◌≤◌, ◌<◌, length, take, drop, All}
-use Rattle.s7_base.specs.declared.entry.Side.{Side}
-use Rattle.s7_base.specs.declared.entry.Side.TheVariants.{A, B}
+use Rattle.s7_events.specs.declared.entry.Side.{Side}
+use Rattle.s7_events.specs.declared.entry.Side.TheVariants.{A, B}
 use Rattle.plant_script.specs.Plan.{Plan}
 use Rattle.pair_core.specs.declared.cuts.Cuts.{Cuts}
 use Rattle.pair_core.specs.declared.cuts.Soundness.{Soundness}

@@ -1,20 +1,20 @@
 -- How an entry of the record is written: its number, its request and its answer.
 use Rattle.std.specs.Prelude.{ℕ, ◌==◌, Option, Some, None, List, ◌++◌, if◌then◌else◌, codes}
 use Rattle.std.specs.Fmt.{decimal}
-use Rattle.s7_base.specs.declared.entry.Side.{Side}
-use Rattle.s7_base.specs.declared.entry.Side.TheVariants.{A, B}
-use Rattle.s7_base.specs.declared.entry.Loss.{Loss}
-use Rattle.s7_base.specs.declared.entry.Loss.TheVariants.{Failed, Suspect}
-use Rattle.s7_base.specs.declared.entry.StopCode.{StopCode}
-use Rattle.s7_base.specs.declared.entry.StopCode.TheVariants as codes_of
-use Rattle.s7_base.specs.declared.entry.Job as jobs
-use Rattle.s7_base.specs.declared.entry.JobArea.{JobArea}
-use Rattle.s7_base.specs.declared.entry.JobArea.TheVariants.{M, Db}
-use Rattle.s7_base.specs.declared.entry.Ask.{Ask}
-use Rattle.s7_base.specs.declared.entry.Ask.TheVariants as asks
-use Rattle.s7_base.specs.declared.entry.Answer.{Answer}
-use Rattle.s7_base.specs.declared.entry.Answer.TheVariants as answers
-use Rattle.s7_base.specs.declared.entry.Entry.{Entry}
+use Rattle.s7_events.specs.declared.entry.Side.{Side}
+use Rattle.s7_events.specs.declared.entry.Side.TheVariants.{A, B}
+use Rattle.s7_events.specs.declared.entry.Loss.{Loss}
+use Rattle.s7_events.specs.declared.entry.Loss.TheVariants.{Failed, Suspect}
+use Rattle.s7_events.specs.declared.entry.StopCode.{StopCode}
+use Rattle.s7_events.specs.declared.entry.StopCode.TheVariants as codes_of
+use Rattle.s7_events.specs.declared.entry.Job as jobs
+use Rattle.s7_events.specs.declared.entry.JobArea.{JobArea}
+use Rattle.s7_events.specs.declared.entry.JobArea.TheVariants.{M, Db}
+use Rattle.s7_events.specs.declared.entry.Ask.{Ask}
+use Rattle.s7_events.specs.declared.entry.Ask.TheVariants as asks
+use Rattle.s7_events.specs.declared.entry.Answer.{Answer}
+use Rattle.s7_events.specs.declared.entry.Answer.TheVariants as answers
+use Rattle.s7_events.specs.declared.entry.Entry.{Entry}
 use Rattle.pair_core.specs.Image.{hex, image}
 
 abbrev pub side_word : Side → List ℕ

@@ -1,9 +1,9 @@
 -- What holds of a world that was reached by visits.
 use Rattle.std.specs.Prelude.{ℕ, ◌+◌, ◌≡◌, ◌≤◌, Bool, true, false, ◌&&◌, ◌||◌, not, if◌then◌else◌, ◌⊎◌, List, [], ◌∷◌, ◌++◌, length, Some, is_some}
-use Rattle.s7_base.specs.declared.entry.Side.{Side}
-use Rattle.s7_base.specs.declared.entry.Loss.TheVariants.{Suspect}
-use Rattle.s7_base.specs.declared.entry.Answer.TheVariants.{Lost}
-use Rattle.s7_base.specs.declared.entry.Entry.{Entry}
+use Rattle.s7_events.specs.declared.entry.Side.{Side}
+use Rattle.s7_events.specs.declared.entry.Loss.TheVariants.{Suspect}
+use Rattle.s7_events.specs.declared.entry.Answer.TheVariants.{Lost}
+use Rattle.s7_events.specs.declared.entry.Entry.{Entry}
 use Rattle.mc_machine.specs.Meaning.{asked}
 use Rattle.pair_core.specs.declared.own.Own.{Own}
 use Rattle.pair_core.specs.Sides.{other_side, runs, first_standing, standing}

@@ -1,7 +1,7 @@
 -- What the fields of a pair stand for.
 use Rattle.std.specs.Prelude.{◌≡◌, ℕ, ◌≤◌, ◌*◌, ◌<◌, true, length}
-use Rattle.s7_base.specs.declared.entry.Side.{Side}
-use Rattle.s7_base.specs.declared.entry.Side.TheVariants.{A, B}
+use Rattle.s7_events.specs.declared.entry.Side.{Side}
+use Rattle.s7_events.specs.declared.entry.Side.TheVariants.{A, B}
 use Rattle.plant_script.specs.Plan.{Plan, IsPlan}
 use Rattle.plant_script.specs.InputImage.{Image, IsImageOf}
 use Rattle.pair_core.specs.declared.turns.Act.{Act}

@@ -1,11 +1,11 @@
 -- The lives of a side: the stretches of the record in which it ran.
 use Rattle.std.specs.Prelude.{◌≡◌, ℕ, zero, suc, ◌+◌, ◌≤◌, Bool, if◌then◌else◌, List, [], ◌∷◌, ◌++◌, length, Option, Some, None}
-use Rattle.s7_base.specs.declared.entry.Side.{Side}
-use Rattle.s7_base.specs.declared.entry.Loss.{Loss}
-use Rattle.s7_base.specs.declared.entry.Loss.TheVariants.{Failed, Suspect}
-use Rattle.s7_base.specs.declared.entry.Answer.{Answer}
-use Rattle.s7_base.specs.declared.entry.Answer.TheVariants.{Lost, Back}
-use Rattle.s7_base.specs.declared.entry.Entry.{Entry}
+use Rattle.s7_events.specs.declared.entry.Side.{Side}
+use Rattle.s7_events.specs.declared.entry.Loss.{Loss}
+use Rattle.s7_events.specs.declared.entry.Loss.TheVariants.{Failed, Suspect}
+use Rattle.s7_events.specs.declared.entry.Answer.{Answer}
+use Rattle.s7_events.specs.declared.entry.Answer.TheVariants.{Lost, Back}
+use Rattle.s7_events.specs.declared.entry.Entry.{Entry}
 use Rattle.pair_core.specs.declared.endings.Ended.{Ended}
 use Rattle.pair_core.specs.declared.endings.Ended.TheVariants.{End, Stop, NoneLeft, Spent, NotPlayed}
 use Rattle.subsystem.specs.declared.parts.How.{How}

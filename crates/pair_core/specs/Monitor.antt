@@ -1,10 +1,10 @@
 -- The monitoring of the cycle.
 use Rattle.std.specs.Prelude.{ℕ, ◌+◌, Bool, false, nat_le, List, [], ◌∷◌, Option, Some, None}
-use Rattle.s7_base.specs.declared.entry.Ask.{Ask}
-use Rattle.s7_base.specs.declared.entry.Ask.TheVariants.{Outputs, Retrigger, Cycle}
-use Rattle.s7_base.specs.declared.entry.Answer.{Answer}
-use Rattle.s7_base.specs.declared.entry.Answer.TheVariants.{Done}
-use Rattle.s7_base.specs.declared.entry.Entry.{Entry}
+use Rattle.s7_events.specs.declared.entry.Ask.{Ask}
+use Rattle.s7_events.specs.declared.entry.Ask.TheVariants.{Outputs, Retrigger, Cycle}
+use Rattle.s7_events.specs.declared.entry.Answer.{Answer}
+use Rattle.s7_events.specs.declared.entry.Answer.TheVariants.{Done}
+use Rattle.s7_events.specs.declared.entry.Entry.{Entry}
 
 -- From which moment the cycle is monitored after entry k: from k where its outputs are put out or the time is started anew; at
 -- the end of a cycle it is not monitored.

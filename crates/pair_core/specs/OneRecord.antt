@@ -1,7 +1,7 @@
 -- How many records there are of one program and one script.
 use Rattle.std.specs.Prelude.{◌≡◌, ◌⊎◌, Bool, List}
 use mathlib.Core.List.{IsPrefix}
-use Rattle.s7_base.specs.declared.entry.Entry.{Entry}
+use Rattle.s7_events.specs.declared.entry.Entry.{Entry}
 use Rattle.s7_base.specs.Blocks.{Program}
 use Rattle.mc_machine.specs.Meaning.{asked}
 use Rattle.plant_script.specs.Plan.{Plan}

@@ -1,7 +1,7 @@
 -- Where a subsystem stands.
 use Rattle.std.specs.Prelude.{◌≡◌, true, false, if◌then◌else◌, List, [], ◌∷◌, take, Option, None}
-use Rattle.s7_base.specs.declared.entry.Entry.{Entry}
-use Rattle.s7_base.specs.declared.entry.Answer.{Answer}
+use Rattle.s7_events.specs.declared.entry.Entry.{Entry}
+use Rattle.s7_events.specs.declared.entry.Answer.{Answer}
 use Rattle.s7_base.specs.Blocks.{Program}
 use Rattle.mc_machine.specs.Stands.{Running, IsIdle, CanAsk, Stands}
 use Rattle.subsystem.specs.declared.parts.Life.{Life}

@@ -1,11 +1,11 @@
 -- Which entry stops the CPU.
 use Rattle.std.specs.Prelude.{List, [], ◌∷◌, Option, Some, None}
-use Rattle.s7_base.specs.declared.entry.StopCode.{StopCode}
-use Rattle.s7_base.specs.declared.entry.Ask.{Ask}
-use Rattle.s7_base.specs.declared.entry.Ask.TheVariants as asks
-use Rattle.s7_base.specs.declared.entry.Answer.{Answer}
-use Rattle.s7_base.specs.declared.entry.Answer.TheVariants as answers
-use Rattle.s7_base.specs.declared.entry.Entry.{Entry}
+use Rattle.s7_events.specs.declared.entry.StopCode.{StopCode}
+use Rattle.s7_events.specs.declared.entry.Ask.{Ask}
+use Rattle.s7_events.specs.declared.entry.Ask.TheVariants as asks
+use Rattle.s7_events.specs.declared.entry.Answer.{Answer}
+use Rattle.s7_events.specs.declared.entry.Answer.TheVariants as answers
+use Rattle.s7_events.specs.declared.entry.Entry.{Entry}
 
 -- the code with which an entry stops the CPU
 abbrev pub stop_by : Ask → Answer → Option StopCode

@@ -3,11 +3,11 @@ use Rattle.std.specs.Prelude.{◌≡◌, ℕ, ◌+◌, ◌==◌, List, [], ◌�
 use Rattle.std.specs.Option.{option_map}
 use Rattle.std.specs.List.{flat_map}
 use Rattle.std.specs.Fmt.{decimal}
-use Rattle.s7_base.specs.declared.entry.Loss.TheVariants.{Failed, Suspect}
-use Rattle.s7_base.specs.declared.diagnostics.Area.{Area}
-use Rattle.s7_base.specs.declared.diagnostics.Area.TheVariants.{I, Q, M, Db, Timers, Counters, Registers}
-use Rattle.s7_base.specs.declared.diagnostics.DiagCode.{DiagCode}
-use Rattle.s7_base.specs.declared.diagnostics.DiagCode.TheVariants as diag
+use Rattle.s7_events.specs.declared.entry.Loss.TheVariants.{Failed, Suspect}
+use Rattle.s7_events.specs.declared.diagnostics.Area.{Area}
+use Rattle.s7_events.specs.declared.diagnostics.Area.TheVariants.{I, Q, M, Db, Timers, Counters, Registers}
+use Rattle.s7_events.specs.declared.diagnostics.DiagCode.{DiagCode}
+use Rattle.s7_events.specs.declared.diagnostics.DiagCode.TheVariants as diag
 use Rattle.pair_core.specs.Image.{image}
 use Rattle.pair_core.specs.EntryText.{lost_text, back_text, stop_word}
 

@@ -1,16 +1,16 @@
 -- What a visit is answered, and what a request is answered in a visit.
 use Rattle.std.specs.Prelude.{ℕ, Bool, true, false, ◌&&◌, if◌then◌else◌, Option, Some, None}
-use Rattle.s7_base.specs.declared.entry.Side.TheVariants.{A, B}
-use Rattle.s7_base.specs.declared.entry.Loss.TheVariants.{Failed}
-use Rattle.s7_base.specs.declared.entry.Ask.{Ask}
-use Rattle.s7_base.specs.declared.entry.Ask.TheVariants as asks
-use Rattle.s7_base.specs.declared.entry.Answer.{Answer}
-use Rattle.s7_base.specs.declared.entry.Answer.TheVariants as answers
+use Rattle.s7_events.specs.declared.entry.Side.TheVariants.{A, B}
+use Rattle.s7_events.specs.declared.entry.Loss.TheVariants.{Failed}
+use Rattle.s7_events.specs.declared.entry.Ask.{Ask}
+use Rattle.s7_events.specs.declared.entry.Ask.TheVariants as asks
+use Rattle.s7_events.specs.declared.entry.Answer.{Answer}
+use Rattle.s7_events.specs.declared.entry.Answer.TheVariants as answers
 use Rattle.plant_script.specs.Plan.{Plan}
 use Rattle.plant_script.specs.InputImage.{input_image}
 use Rattle.pair_core.specs.declared.turns.Turn.{Turn}
 use Rattle.pair_core.specs.declared.turns.Turn.TheVariants.{Answered, Show, Marked, NotYet, Begin, Chunk, Page, Adopt, Dead, Over}
-use Rattle.s7_base.specs.declared.entry.StopCode.TheVariants as codes
+use Rattle.s7_events.specs.declared.entry.StopCode.TheVariants as codes
 use Rattle.pair_core.specs.Cuts.{is_cut}
 use Rattle.pair_core.specs.Monitor.{is_overdue}
 use Rattle.pair_core.specs.declared.standing.Standing.{Standing}

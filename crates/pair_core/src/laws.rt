@@ -1,6 +1,6 @@
 //! Laws of every pair: when a subsystem stands where the pair says, and how many records there are.
 ghost use Rattle.std.specs.Prelude.{Bool, List};
-ghost use Rattle.s7_base.specs.declared.entry.Entry.{Entry};
+ghost use Rattle.s7_events.specs.declared.entry.Entry.{Entry};
 ghost use Rattle.s7_base.specs.Blocks.{Program};
 ghost use Rattle.subsystem.specs.Part.{Part};
 ghost use Rattle.pair_core.specs.declared.own.Own.{Own};

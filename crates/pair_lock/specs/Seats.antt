@@ -1,6 +1,6 @@
 -- What a contract says of a lock and a seat.
 use Rattle.std.specs.Prelude.{◌≡◌, true, Some, is_some}
-use Rattle.s7_base.specs.declared.entry.Side.{Side}
+use Rattle.s7_events.specs.declared.entry.Side.{Side}
 pub use Rattle.atomic_table.specs.Seated.{TableId}
 use Rattle.pair_lock.specs.declared.seat.PairLock.{PairLock}
 use Rattle.pair_lock.specs.declared.seat.Seat.{Seat}

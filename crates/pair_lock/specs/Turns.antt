@@ -3,7 +3,7 @@ use Rattle.std.specs.Prelude.{◌≡◌, ◌≢◌, ℕ, true, false, ◌⊎◌,
 use mathlib.Core.Option.{none, some}
 use mathlib.Core.List.{IsPrefix}
 use lib.ListN.{get_elem?}
-use Rattle.s7_base.specs.declared.entry.Side.{Side}
+use Rattle.s7_events.specs.declared.entry.Side.{Side}
 use Rattle.atomic_table.specs.Table.{State, Me, Step}
 use Rattle.pair_lock.specs.declared.view.View.{View}
 use Rattle.pair_lock.specs.Views.{last_known, after_taking, after_try, after_giving}

@@ -1,7 +1,7 @@
 -- What a seat knows, and what it knows after each kind of step.
 use Rattle.std.specs.Prelude.{◌≡◌, ◌≤◌, ◌+◌, Option, Some, None}
-use Rattle.s7_base.specs.declared.entry.Side.{Side}
-use Rattle.s7_base.specs.declared.entry.Side.TheVariants.{A, B}
+use Rattle.s7_events.specs.declared.entry.Side.{Side}
+use Rattle.s7_events.specs.declared.entry.Side.TheVariants.{A, B}
 use Rattle.pair_lock.specs.declared.view.View.{View}
 
 module _ {T : Type 0} where

@@ -5,13 +5,13 @@ ghost use Rattle.pair_lock.specs.Meetings.{MayMeet, Met, CalledWith, TakesWith, 
 ghost use Rattle.pair_lock.specs.Seats.{view_of, IsOf, IsSeatOf, Knows, IsNext, lock_id};
 ghost use Rattle.pair_lock.specs.Turns.{Fits, FollowsKnown, Keeps};
 ghost use Rattle.pair_lock.specs.Views.{after_taking, after_try, after_giving, Learns, LearnsLater};
-ghost use Rattle.s7_base.specs.declared.entry.Side.TheVariants.{A, B};
+ghost use Rattle.s7_events.specs.declared.entry.Side.TheVariants.{A, B};
 
 use crate::seat::{PairLock, Seat};
 use crate::view::{Give, JoinSides, SplitSides, Take, View};
 use atomic_table::{Refused, Table};
 use event_record::History;
-use s7_base::NoMemory;
+use s7_events::NoMemory;
 use std::alloc::Global;
 use std::snapshot::Snapshot;
 use std::sync::Wait;

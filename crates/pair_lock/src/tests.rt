@@ -1,6 +1,6 @@
 //! The lock over a small history: notes that the two sides leave.
 ghost use Rattle.std.specs.Prelude.{◌≡◌, IfSome};
-ghost use Rattle.s7_base.specs.declared.entry.Side.TheVariants.{A, B};
+ghost use Rattle.s7_events.specs.declared.entry.Side.TheVariants.{A, B};
 ghost use Rattle.pair_lock.specs.Seats.{lock_id, IsOf, IsNext, Knows};
 ghost use mathlib.Core.List.{IsPrefix};
 ghost use Rattle.pair_lock.specs.declared.tests.Notes.{Notes};
@@ -22,7 +22,7 @@ struct Notes {
 
 impl History for Notes {
     ghost use Rattle.std.specs.Prelude.{ℕ};
-    ghost use Rattle.s7_base.specs.declared.entry.Side.TheVariants.{A, B};
+    ghost use Rattle.s7_events.specs.declared.entry.Side.TheVariants.{A, B};
 
     ghost Entry = { ℕ };
 

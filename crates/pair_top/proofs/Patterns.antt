@@ -7,8 +7,8 @@ use Rattle.std.specs.List.{flat_map}
 use Rattle.std.specs.Str.{all_ascii_digits}
 use Rattle.std.specs.Char.{is_ascii_digit}
 use Rattle.std.proofs.lemmas.Bool.Decides.{nat_tests}
-use Rattle.s7_base.specs.declared.entry.Side.{Side}
-use Rattle.s7_base.specs.Optional.{◌>>=◌}
+use Rattle.s7_events.specs.declared.entry.Side.{Side}
+use Rattle.s7_events.specs.Optional.{◌>>=◌}
 use Rattle.plant_script.specs.Fields.{split_at}
 use Rattle.pair_top.specs.Fields.{value_from}
 use Rattle.pair_top.proofs.Pieces.{split_takes}

@@ -1,7 +1,7 @@
 -- What a command orders.
 use Rattle.std.specs.Prelude.{ℕ, ◌+◌, ◌*◌, Bool, true, false, List, replicate}
-use Rattle.s7_base.specs.declared.entry.Side.{Side}
-use Rattle.s7_base.specs.declared.entry.Side.TheVariants.{A}
+use Rattle.s7_events.specs.declared.entry.Side.{Side}
+use Rattle.s7_events.specs.declared.entry.Side.TheVariants.{A}
 use Rattle.plant_script.specs.Plan.{Plan}
 use Rattle.pair_core.specs.declared.endings.Mode.{Mode}
 use Rattle.pair_core.specs.declared.endings.Mode.TheVariants.{Solo, Pair}

@@ -1,7 +1,7 @@
 -- What contracts see of the parts of a pattern.
 use Rattle.std.specs.Prelude.{ℕ, List, [], unwrap_or, Option, Some, None}
 use Rattle.std.specs.Borrow.{Bor}
-use Rattle.s7_base.specs.declared.entry.Side.{Side}
+use Rattle.s7_events.specs.declared.entry.Side.{Side}
 use Rattle.pair_top.specs.declared.pattern.PatternPart.{PatternPart}
 use Rattle.pair_top.specs.Pattern.{Repeated, sides_of, pieces}
 

@@ -1,6 +1,6 @@
 -- What contracts see of a command.
 use Rattle.std.specs.Prelude.{ℕ, List, [], ◌≡◌, true, unwrap_or, is_some}
-use Rattle.s7_base.specs.declared.entry.Side.{Side}
+use Rattle.s7_events.specs.declared.entry.Side.{Side}
 use Rattle.pair_top.specs.declared.words.Command.{Command}
 use Rattle.pair_top.specs.declared.words.Command.TheVariants as commands
 use Rattle.pair_top.specs.declared.play.Visits.{Visits}

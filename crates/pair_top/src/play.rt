@@ -1,7 +1,7 @@
 //! Plays a pair by visits.
 ghost use Rattle.std.specs.Prelude.{◌≡◌, ◌≤◌, ◌+◌, ◌*◌, ◌∷◌, [], List, true, replicate, is_some};
-ghost use Rattle.s7_base.specs.declared.entry.Side.{Side};
-ghost use Rattle.s7_base.specs.declared.entry.Entry.{Entry};
+ghost use Rattle.s7_events.specs.declared.entry.Side.{Side};
+ghost use Rattle.s7_events.specs.declared.entry.Entry.{Entry};
 ghost use Rattle.s7_base.specs.Blocks.{Program};
 ghost use Rattle.pair_core.specs.declared.own.Own.{Own};
 ghost use Rattle.pair_core.specs.World.{ended, play};

@@ -1,7 +1,7 @@
 -- A difference between the sides that lasts for some moments in a row.
 use Rattle.std.specs.Prelude.{◌≡◌, ℕ, zero, suc, ◌+◌, ◌<◌, ◌≤◌, ◌==◌, true, false}
 use Rattle.std.specs.Str.{bytes_eq}
-use Rattle.s7_base.specs.declared.entry.Side.TheVariants.{A, B}
+use Rattle.s7_events.specs.declared.entry.Side.TheVariants.{A, B}
 use Rattle.plant_script.specs.declared.plan.Module.{Module}
 use Rattle.plant_script.specs.Plan.{Plan}
 use Rattle.plant_io.specs.PlantValue.{side_bytes}

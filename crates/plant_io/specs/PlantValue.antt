@@ -1,8 +1,8 @@
 -- The values of a plant's inputs, and which modules are reached.
 use Rattle.std.specs.Prelude.{ℕ, ◌+◌, ◌<◌, ◌≤◌, Bool, true, List, map, length, Option, Some, None, unwrap_or, slice_get, IsSomeAnd, nat_lt, if◌then◌else◌}
 use Rattle.std.specs.List.{range_with_len}
-use Rattle.s7_base.specs.declared.entry.Side.{Side}
-use Rattle.s7_base.specs.declared.entry.Side.TheVariants.{A, B}
+use Rattle.s7_events.specs.declared.entry.Side.{Side}
+use Rattle.s7_events.specs.declared.entry.Side.TheVariants.{A, B}
 use Rattle.plant_script.specs.declared.plan.Module.{Module}
 use Rattle.plant_script.specs.declared.plan.ModuleKind.{ModuleKind}
 use Rattle.plant_script.specs.declared.plan.ModuleKind.TheVariants.{Switched, OneSided, Redundant}

@@ -4,11 +4,11 @@ ghost use Rattle.plant_io.specs.PairValue.{PairState, Standing, fresh, pair_step
 ghost use Rattle.plant_io.specs.PlantValue.{side_bytes};
 ghost use Rattle.plant_script.specs.Form.{IsModule};
 ghost use Rattle.plant_script.specs.declared.plan.Module.{Module};
-ghost use Rattle.s7_base.specs.declared.entry.Side.{Side};
+ghost use Rattle.s7_events.specs.declared.entry.Side.{Side};
 
 use crate::value::{MODULE_BYTES, side_bytes};
 use plant_script::{Module, ModuleKind, Script};
-use s7_base::Side;
+use s7_events::Side;
 use std::marker::Model;
 
 /// What two sides make of one REDUNDANT module of inputs: the value that the pair takes, and for how many moments in

@@ -3,7 +3,7 @@ ghost use Rattle.std.specs.Prelude.{◌≡◌, ◌+◌, ◌^◌, ◌<◌, ◌≤
 use crate::value::{is_reachable, side_named};
 use crate::*;
 use plant_script::{ModuleKind, read_script};
-use s7_base::Side;
+use s7_events::Side;
 use std::test::Fail;
 
 /// A moment at which the first byte of a module is this on side A and on side B. Gives whether OB70 becomes due, and

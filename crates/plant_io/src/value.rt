@@ -4,7 +4,7 @@ ghost use Rattle.plant_io.specs.PlantValue.{HasModule, HoldsByte, side_named, by
 ghost use Rattle.plant_script.specs.Form.{IsModule};
 
 use plant_script::{Module, ModuleKind, Script};
-use s7_base::Side;
+use s7_events::Side;
 
 /// The number of bytes that a module has at most.
 pub(crate) const MODULE_BYTES: usize = 64;

@@ -4,7 +4,7 @@ use Rattle.std.specs.Prelude.{nat_le, All, unwrap_or, not}
 use Rattle.std.specs.List.{fold, find}
 use Rattle.std.specs.Option.{option_or}
 use Rattle.std.proofs.lemmas.List.Elements.{All-nil, All-cons, All-head, All-tail, All-weaker}
-use Rattle.s7_base.specs.declared.entry.Side.{Side}
+use Rattle.s7_events.specs.declared.entry.Side.{Side}
 use Rattle.plant_script.specs.declared.plan.Module.{Module}
 use Rattle.plant_script.specs.declared.plan.ModuleKind.{ModuleKind}
 use Rattle.plant_script.specs.declared.plan.ModuleKind.TheVariants.{Switched, OneSided, Redundant}

@@ -10,7 +10,7 @@ use Rattle.plant_script.specs.declared.plan.Event.{Event}
 use Rattle.plant_script.specs.declared.plan.What.{What}
 use Rattle.plant_script.specs.declared.plan.What.TheVariants.{Input, Alarm, Job, Fail, Return, Suspect}
 use Rattle.plant_script.specs.declared.second_pass.Failures.{Failures}
-use Rattle.s7_base.specs.declared.entry.Side.{Side}
+use Rattle.s7_events.specs.declared.entry.Side.{Side}
 use Rattle.plant_script.specs.declared.script_error.ScriptFault.{ScriptFault}
 use Rattle.plant_script.specs.Form.{IsModule}
 use Rattle.plant_script.specs.Plan.{Plan, has_input, fits_side, no_failures, breaks_order, after_what, is_switched, is_comeback, InOrder, HasFitting, HasModule, AreModules, AreEvents, IsBuilt, IsPlan}

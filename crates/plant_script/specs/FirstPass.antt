@@ -6,7 +6,7 @@ use Rattle.plant_script.specs.declared.plan.Event.{Event}
 use Rattle.plant_script.specs.declared.plan.What.{What}
 use Rattle.plant_script.specs.declared.plan.What.TheVariants.{Input, Alarm, Job, Fail, Return, Suspect}
 use Rattle.plant_script.specs.declared.script_error.ScriptFault.{ScriptFault}
-use Rattle.plant_script.specs.declared.script_error.TheConstants.{BAD_LINE, BAD_TIME, TIME_BACK, OVERLAP, NO_MODULE, NO_END, TOO_LONG}
+use Rattle.plant_script.specs.Faults.{bad_line, bad_time, time_back, overlap, no_module, no_end, too_long}
 use Rattle.plant_script.specs.declared.lines.Line.{Line}
 use Rattle.plant_script.specs.declared.lines.Line.TheVariants.{Skipped, Module as IsModule, At, End}
 use Rattle.plant_script.specs.Words.{is_empty, words_of, time_word}
@@ -93,12 +93,12 @@ is_too_long events number line = number == 20001 || is_one_more events line
 -- the lowest fault of a line that has a form
 unfoldable pub line_fault : Reading → ℕ → Line → List ℕ → Option ℕ
 line_fault r number line time =
-    if is_bad_line r line then Some BAD_LINE
-    else if is_bad_time line time then Some BAD_TIME
-    else if goes_back r.floor line time then Some TIME_BACK
-    else if overlaps r.modules line then Some OVERLAP
-    else if has_no_module r.modules line then Some NO_MODULE
-    else if is_too_long r.events number line then Some TOO_LONG
+    if is_bad_line r line then Some bad_line
+    else if is_bad_time line time then Some bad_time
+    else if goes_back r.floor line time then Some time_back
+    else if overlaps r.modules line then Some overlap
+    else if has_no_module r.modules line then Some no_module
+    else if is_too_long r.events number line then Some too_long
     else None
 
 -- ---- the lines
@@ -122,7 +122,7 @@ judged None r number line time = Ok (with_line r number line time)
 judged (Some kind) r number line time = Err (fault_at kind number)
 
 abbrev pub read_form : Reading → ℕ → Option Line → List ℕ → Result Reading ScriptFault
-read_form r number None time = Err (fault_at BAD_LINE number)
+read_form r number None time = Err (fault_at bad_line number)
 read_form r number (Some line) time = judged (line_fault r number line time) r number line time
 
 -- one line
@@ -130,7 +130,7 @@ unfoldable pub read_line : Reading → ℕ → List ℕ → Result Reading Scrip
 read_line r number text = read_form r number (line_of number (words_of text)) (time_word (words_of text))
 
 abbrev pub plan_by : Option ℕ → Reading → ℕ → Result Plan ScriptFault
-plan_by None r number = Err (fault_at NO_END number)
+plan_by None r number = Err (fault_at no_end number)
 plan_by (Some end) r number = Ok (record { modules = r.modules; events = r.events; end = end })
 
 -- where there is no fault, what goes on

@@ -1,8 +1,8 @@
 -- The ranges of what lines say.
 use Rattle.std.specs.Prelude.{◌≡◌, ℕ, ◌≤◌, ◌<◌, ◌+◌, ◌*◌, ◌^◌, false, IsTrue, ◌||◌, ◌==◌}
-use Rattle.s7_base.specs.declared.entry.Job.{Job}
-use Rattle.s7_base.specs.declared.entry.JobArea.{JobArea}
-use Rattle.s7_base.specs.declared.entry.JobArea.TheVariants.{M, Db}
+use Rattle.s7_events.specs.declared.entry.Job.{Job}
+use Rattle.s7_events.specs.declared.entry.JobArea.{JobArea}
+use Rattle.s7_events.specs.declared.entry.JobArea.TheVariants.{M, Db}
 use Rattle.plant_script.specs.declared.plan.Module.{Module}
 use Rattle.plant_script.specs.declared.plan.What.{What}
 use Rattle.plant_script.specs.declared.plan.What.TheVariants.{Input, Alarm, Job as IsJob, Fail, Return, Suspect}

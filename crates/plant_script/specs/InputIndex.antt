@@ -1,8 +1,8 @@
 -- The index of the inputs: for each byte, without a side or on one, its values by their moments.
 use Rattle.std.specs.Prelude.{◌≡◌, ℕ, ◌+◌, ◌*◌, ◌<◌, ◌≤◌, List, [], ◌∷◌, ◌++◌, length, Option, Some, None, nat_le, slice_index_or, slice_set, if◌then◌else◌}
 use Rattle.std.specs.List.{fold, AllPairs}
-use Rattle.s7_base.specs.declared.entry.Side.{Side}
-use Rattle.s7_base.specs.declared.entry.Side.TheVariants.{A, B}
+use Rattle.s7_events.specs.declared.entry.Side.{Side}
+use Rattle.s7_events.specs.declared.entry.Side.TheVariants.{A, B}
 use Rattle.plant_script.specs.declared.plan.Event.{Event}
 use Rattle.plant_script.specs.declared.plan.What.{What}
 use Rattle.plant_script.specs.declared.plan.What.TheVariants.{Input, Alarm, Job, Fail, Return, Suspect}

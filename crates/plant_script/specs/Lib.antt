@@ -1,3 +1,4 @@
+pub mod Faults
 pub mod Fields
 pub mod FirstPass
 pub mod Form

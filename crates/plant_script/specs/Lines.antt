@@ -3,11 +3,11 @@
 use Rattle.std.specs.Prelude.{ℕ, ◌+◌, ◌*◌, ◌==◌, ◌&&◌, ◌||◌, Bool, true, false, List, [], ◌∷◌, Option, Some, None, unwrap_or, min, nat_le, if◌then◌else◌, codes}
 use Rattle.std.specs.Option.{option_map}
 use Rattle.std.specs.Str.{bytes_eq}
-use Rattle.s7_base.specs.declared.entry.Side.{Side}
-use Rattle.s7_base.specs.declared.entry.Side.TheVariants.{A, B}
-use Rattle.s7_base.specs.declared.entry.Job.{Job}
-use Rattle.s7_base.specs.declared.entry.JobArea.{JobArea}
-use Rattle.s7_base.specs.declared.entry.JobArea.TheVariants.{M, Db}
+use Rattle.s7_events.specs.declared.entry.Side.{Side}
+use Rattle.s7_events.specs.declared.entry.Side.TheVariants.{A, B}
+use Rattle.s7_events.specs.declared.entry.Job.{Job}
+use Rattle.s7_events.specs.declared.entry.JobArea.{JobArea}
+use Rattle.s7_events.specs.declared.entry.JobArea.TheVariants.{M, Db}
 use Rattle.plant_script.specs.declared.plan.Module.{Module}
 use Rattle.plant_script.specs.declared.plan.ModuleKind.{ModuleKind}
 use Rattle.plant_script.specs.declared.plan.ModuleKind.TheVariants.{Switched, OneSided, Redundant}
@@ -21,7 +21,7 @@ use Rattle.plant_script.specs.declared.lines.Head.{Head}
 use Rattle.plant_script.specs.declared.lines.Head.TheVariants as heads
 use Rattle.plant_script.specs.declared.lines.Line.{Line}
 use Rattle.plant_script.specs.declared.lines.Line.TheVariants.{Skipped, Module as IsModule, At, End}
-use Rattle.s7_base.specs.Optional.{◌>>=◌}
+use Rattle.s7_events.specs.Optional.{◌>>=◌}
 use Rattle.plant_script.specs.Words.{uncons, is_empty, begins_with}
 use Rattle.plant_script.specs.Numbers.{value_of, is_number, number_within, hex_of}
 

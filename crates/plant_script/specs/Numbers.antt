@@ -1,7 +1,7 @@
 -- Numbers as a script writes them.
 use Rattle.std.specs.Prelude.{ℕ, ◌+◌, ◌-◌, ◌*◌, List, [], ◌∷◌, length, ◌==◌, ◌&&◌, not, Bool, true, false, Option, Some, None, nat_le, nat_lt, if◌then◌else◌}
 use Rattle.std.specs.Str.{all_ascii_digits}
-use Rattle.s7_base.specs.Optional.{◌>>=◌}
+use Rattle.s7_events.specs.Optional.{◌>>=◌}
 use Rattle.plant_script.specs.Words.{is_empty}
 
 -- the value of what was read, followed by these digits

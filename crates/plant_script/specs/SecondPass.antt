@@ -5,7 +5,7 @@ use Rattle.std.specs.List.{find}
 use Rattle.plant_script.specs.declared.plan.Module.{Module}
 use Rattle.plant_script.specs.declared.plan.Event.{Event}
 use Rattle.plant_script.specs.declared.script_error.ScriptFault.{ScriptFault}
-use Rattle.plant_script.specs.declared.script_error.TheConstants.{BAD_TIME, FAIL_RETURN_ORDER, NOT_BUILT}
+use Rattle.plant_script.specs.Faults.{bad_time, fail_return_order, not_built}
 use Rattle.plant_script.specs.declared.second_pass.Failures.{Failures}
 use Rattle.plant_script.specs.FirstPass.{◌≫◌, nothing_read, fault_at, first_pass}
 use Rattle.plant_script.specs.Plan.{Plan, no_failures, failed_at, breaks_order, after_what, is_switched, is_comeback}
@@ -14,8 +14,8 @@ use Rattle.plant_script.specs.Words.{lines_of}
 -- the fault of an event, where its side failed at these moments before
 abbrev pub event_fault : ℕ → Failures → Event → Option ℕ
 event_fault end failures event =
-    if nat_le end event.moment then Some BAD_TIME
-    else if breaks_order failures event.moment event.what then Some FAIL_RETURN_ORDER
+    if nat_le end event.moment then Some bad_time
+    else if breaks_order failures event.moment event.what then Some fail_return_order
     else None
 
 -- the first fault of the events
@@ -39,7 +39,7 @@ unbuilt_line modules events =
 
 abbrev pub built : Option ℕ → Plan → Result Plan ScriptFault
 built None plan = Ok plan
-built (Some line) plan = Err (fault_at NOT_BUILT line)
+built (Some line) plan = Err (fault_at not_built line)
 
 abbrev pub ordered : Option ScriptFault → Plan → Result Plan ScriptFault
 ordered None plan = built (unbuilt_line plan.modules plan.events) plan

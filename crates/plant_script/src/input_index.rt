@@ -6,7 +6,7 @@ ghost use Rattle.plant_script.specs.Values.{last_value};
 ghost use Rattle.plant_script.specs.declared.plan.Event.{Event as IsEvent};
 
 use crate::plan::{Event, What};
-use s7_base::{NoMemory, Side};
+use s7_events::{NoMemory, Side};
 use std::alloc::Global;
 use std::marker::Model;
 

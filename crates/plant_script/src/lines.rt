@@ -8,7 +8,7 @@ ghost use Rattle.plant_script.specs.Lines.{number_at, hex_at, side_of, side_at, 
 use crate::numbers::{hex_of, is_number, number_within, value_of};
 use crate::plan::{Module, ModuleKind, What};
 use crate::words::{is_blank, next_word};
-use s7_base::{Job, JobArea, Side};
+use s7_events::{Job, JobArea, Side};
 
 /// A line that has a form. The moment of an AT line and the number of END are left as words.
 #[derive(Clone, Copy, Debug, PartialEq, Eq)]

@@ -2,7 +2,7 @@
 ghost use Rattle.std.specs.Prelude.{◌≡◌, ◌+◌};
 ghost use Rattle.plant_script.specs.Plan.{stops, has_input, is_alarm_or_job, is_comeback};
 
-use s7_base::{Job, Side};
+use s7_events::{Job, Side};
 
 /// How a module is reached.
 #[derive(Clone, Copy, Debug, PartialEq, Eq)]

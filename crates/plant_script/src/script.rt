@@ -7,7 +7,7 @@ ghost use Rattle.plant_script.specs.InputImage.{plant_value};
 
 use crate::input_index::InputIndex;
 use crate::plan::{Event, Module};
-use s7_base::{NoMemory, Side};
+use s7_events::{NoMemory, Side};
 use std::alloc::Global;
 use std::marker::Model;
 

@@ -8,7 +8,7 @@ use crate::first_pass::{Parts, fault_at, first_pass};
 use crate::script::Script;
 use crate::script_error::{NOT_BUILT, ScriptError};
 use crate::second_pass::{events_fault, unbuilt_line};
-use s7_base::NoMemory;
+use s7_events::NoMemory;
 use std::alloc::Global;
 
 /// Returns the script that the bytes spell, of which there are at most 1,048,576, or its first fault: that of the first

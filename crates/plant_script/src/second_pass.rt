@@ -7,7 +7,7 @@ ghost use Rattle.plant_script.specs.SecondPass.{event_fault, events_fault, unbui
 use crate::first_pass::fault_at;
 use crate::plan::{Event, Module, ModuleKind, What};
 use crate::script_error::{BAD_TIME, FAIL_RETURN_ORDER, ScriptFault};
-use s7_base::Side;
+use s7_events::Side;
 
 /// The moment at which each side failed, where it has not returned since.
 #[derive(Clone, Copy, Debug)]

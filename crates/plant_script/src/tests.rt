@@ -1,5 +1,5 @@
 use crate::*;
-use s7_base::{Job, JobArea, Side};
+use s7_events::{Job, JobArea, Side};
 use std::alloc::Global;
 use std::test::Fail;
 

@@ -4,13 +4,13 @@ use Rattle.std.specs.List.{find}
 use Rattle.s7_base.specs.declared.blocks.CodeKind.{CodeKind}
 use Rattle.s7_base.specs.declared.blocks.CodeKind.TheVariants.{Ob, Fb, Fc}
 use Rattle.s7_base.specs.declared.statement.Statement.{Statement}
-use Rattle.s7_base.specs.declared.table.InstructionRow.{InstructionRow}
-use Rattle.s7_base.specs.declared.operation.Operation.{Operation}
-use Rattle.s7_base.specs.declared.operation.Operation.TheVariants as groups
-use Rattle.s7_base.specs.declared.operation.BlockControl.TheVariants.{End, EndConditional, EndUnconditional}
-use Rattle.s7_base.specs.declared.operands.OperandArea.TheVariants as areas
+use Rattle.instruction_set.specs.declared.table.InstructionRow.{InstructionRow}
+use Rattle.instruction_set.specs.declared.operation.Operation.{Operation}
+use Rattle.instruction_set.specs.declared.operation.Operation.TheVariants as groups
+use Rattle.instruction_set.specs.declared.operation.BlockControl.TheVariants.{End, EndConditional, EndUnconditional}
+use Rattle.instruction_set.specs.declared.operands.OperandArea.TheVariants as areas
 use Rattle.s7_base.specs.Operands.{is_in}
-use Rattle.s7_base.specs.Rows.{row_of}
+use Rattle.instruction_set.specs.Rows.{row_of}
 
 -- a code block: its kind and number, the bytes of its temporary data, its statements
 pub record Code : Type 0 where

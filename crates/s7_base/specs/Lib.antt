@@ -1,9 +1,4 @@
 pub mod Blocks
-pub mod Fitting
-pub mod InstructionSet
 pub mod Limits
 pub mod Operands
-pub mod Optional
-pub mod Priorities
-pub mod Rows
 pub mod Statements

@@ -3,13 +3,9 @@ use Rattle.std.specs.Prelude.{◌≡◌, ℕ, ◌+◌, ◌/◌, ◌%◌, ◌≤�
 use Rattle.std.specs.List.{sum_by}
 use Rattle.s7_base.specs.declared.blocks.CodeKind.{CodeKind}
 use Rattle.s7_base.specs.declared.blocks.CodeKind.TheVariants.{Ob, Fb, Fc}
-use Rattle.s7_base.specs.Priorities.{has_priority}
+use Rattle.s7_events.specs.Priorities.{is_ob}
 use Rattle.s7_base.specs.Statements.{is_statement, all_land}
 use Rattle.s7_base.specs.Blocks.{Code, Data, Program, same_kind, code_of}
-
--- the organisation blocks: those that start a level, and those for errors
-abbrev pub is_ob : ℕ → Bool
-is_ob number = has_priority number || number == 121 || number == 122
 
 -- the numbers that a block of a kind may have
 abbrev pub has_number : CodeKind → ℕ → Bool

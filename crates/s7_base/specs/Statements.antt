@@ -2,12 +2,12 @@
 use Rattle.std.specs.Prelude.{ℕ, ◌+◌, ◌-◌, ◌&&◌, ◌||◌, Bool, true, false, not, nat_le, List, [], ◌∷◌, length, take, Option, Some, None}
 use Rattle.std.specs.List.{list_all}
 use Rattle.s7_base.specs.declared.statement.Statement.{Statement}
-use Rattle.s7_base.specs.declared.table.InstructionRow.{InstructionRow}
-use Rattle.s7_base.specs.declared.operation.Operation.{Operation}
-use Rattle.s7_base.specs.declared.operation.Operation.TheVariants as groups
-use Rattle.s7_base.specs.declared.operation.Branch.TheVariants.{Ju, Jl}
-use Rattle.s7_base.specs.declared.operands.OperandArea.TheVariants.{Target}
-use Rattle.s7_base.specs.Rows.{row_of}
+use Rattle.instruction_set.specs.declared.table.InstructionRow.{InstructionRow}
+use Rattle.instruction_set.specs.declared.operation.Operation.{Operation}
+use Rattle.instruction_set.specs.declared.operation.Operation.TheVariants as groups
+use Rattle.instruction_set.specs.declared.operation.Branch.TheVariants.{Ju, Jl}
+use Rattle.instruction_set.specs.declared.operands.OperandArea.TheVariants.{Target}
+use Rattle.instruction_set.specs.Rows.{row_of}
 use Rattle.s7_base.specs.Operands.{allows, is_in}
 
 -- the operand is one that the row allows, in a block with so many bytes of local data

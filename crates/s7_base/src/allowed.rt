@@ -3,7 +3,7 @@ ghost use Rattle.std.specs.Prelude.{◌≡◌};
 ghost use Rattle.s7_base.specs.Operands.{is_in, is_data_number, ends_by, is_within, is_of_cpu, is_of_data, is_memory, is_bit, unit_bytes, is_value, is_peripheral, is_number, is_up_to, is_exactly, is_nothing, is_timer_or_counter, is_constant, is_about_data, allows};
 
 use crate::Statement;
-use crate::operands::{OperandArea, OperandKind};
+use instruction_set::{OperandArea, OperandKind};
 
 /// Whether a data block may have the number: 1 to 255.
 pub fn is_data_number(number: u32) -> bool

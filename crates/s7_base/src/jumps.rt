@@ -4,9 +4,7 @@ ghost use Rattle.std.specs.List.{list_all};
 ghost use Rattle.s7_base.specs.Statements.{is_statement, is_ju, is_jl, is_target, is_list, lands, all_land};
 
 use crate::Statement;
-use crate::operands::OperandArea;
-use crate::operation::{Branch, Operation};
-use crate::table::instruction_row;
+use instruction_set::{Branch, OperandArea, Operation, instruction_row};
 
 impl Statement {
     /// Whether the statement is one of the language, in a block with so many bytes of local data: its operation is

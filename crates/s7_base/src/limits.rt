@@ -2,19 +2,13 @@
 ghost use Rattle.std.specs.Prelude.{◌≡◌, ◌+◌, ◌≤◌, ◌↔◌, length, IsTrue, IsSome, All};
 ghost use Rattle.s7_base.specs.Statements.{is_statement};
 ghost use Rattle.s7_base.specs.Blocks.{Program};
-ghost use Rattle.s7_base.specs.Limits.{is_ob, has_number, locals_of, IsCode, IsData, AreCodes, AreData, kind_place, is_before, is_before_first, codes_rise, is_below_first, data_rise, pages, all_statements, all_bytes, all_pages, IsWellFormed};
+ghost use Rattle.s7_events.specs.Priorities.{is_ob};
+ghost use Rattle.s7_base.specs.Limits.{has_number, locals_of, IsCode, IsData, AreCodes, AreData, kind_place, is_before, is_before_first, codes_rise, is_below_first, data_rise, pages, all_statements, all_bytes, all_pages, IsWellFormed};
 
 use crate::Statement;
 use crate::blocks::{CodeBlock, CodeKind, DataBlock, code_in};
 use crate::jumps::all_land;
-use crate::priorities::is_alarm_ob;
-
-/// Whether an organisation block may have the number.
-pub fn is_ob(number: u8) -> bool
-    ensures { result ≡ is_ob number }
-{
-    is_alarm_ob(number) || matches!(number, 1 | 85 | 100 | 121 | 122)
-}
+use s7_events::is_ob;
 
 impl CodeKind {
     fn has_number(self, number: u8) -> bool

@@ -1,12 +1,10 @@
 //! Which programs are played.
 ghost use Rattle.std.specs.Prelude.{◌≡◌, ◌↔◌, IsTrue, All};
 ghost use Rattle.s7_base.specs.Blocks.{is_elsewhere, is_call_operation, is_call_row, is_played, IsMain, IsPlayable};
-ghost use Rattle.s7_base.specs.Rows.{row_of};
+ghost use Rattle.instruction_set.specs.Rows.{row_of};
 
-use crate::operands::OperandArea;
-use crate::operation::{BlockControl, Operation};
-use crate::table::instruction_row;
 use crate::{Blocks, CodeBlock, CodeKind, Statement};
+use instruction_set::{BlockControl, OperandArea, Operation, instruction_row};
 
 fn is_call_operation(operation: Operation) -> bool
     ensures { result ≡ is_call_operation operation }

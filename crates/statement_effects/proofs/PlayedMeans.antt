@@ -3,11 +3,11 @@ use Rattle.std.proofs.Common.{◌≡◌, ℕ, zero, suc, true, false, not, List,
 use Rattle.std.specs.Prelude.{slice_get, is_some}
 use Rattle.std.proofs.lemmas.Bool.{and_parts, not-true}
 use Rattle.s7_base.specs.declared.statement.Statement.{Statement}
-use Rattle.s7_base.specs.declared.table.InstructionRow.{InstructionRow}
-use Rattle.s7_base.specs.InstructionSet.{instruction_set}
-use Rattle.s7_base.specs.declared.operands.OperandArea.TheVariants as areas
+use Rattle.instruction_set.specs.declared.table.InstructionRow.{InstructionRow}
+use Rattle.instruction_set.specs.InstructionSet.{instruction_set}
+use Rattle.instruction_set.specs.declared.operands.OperandArea.TheVariants as areas
 use Rattle.s7_base.specs.Operands.{allows}
-use Rattle.s7_base.specs.Rows.{row_of}
+use Rattle.instruction_set.specs.Rows.{row_of}
 use Rattle.s7_base.specs.Statements.{is_of_row, is_statement}
 use Rattle.s7_base.specs.Blocks.{is_elsewhere, is_call_operation, is_call_row, is_played}
 use Rattle.status_word.specs.declared.status.Check.TheVariants as checks

@@ -4,33 +4,33 @@ use Rattle.std.specs.Prelude.{ℕ, ◌+◌, ◌<◌, ◌≤◌, ◌==◌, ◌&&�
 use Rattle.std.specs.Int.{w16, w32, cast_signed}
 use Rattle.std.specs.Option.{option_map}
 use Rattle.s7_base.specs.declared.statement.Statement.{Statement}
-use Rattle.s7_base.specs.declared.table.InstructionRow.{InstructionRow}
-use Rattle.s7_base.specs.declared.operation.Operation.{Operation}
-use Rattle.s7_base.specs.declared.operation.Operation.TheVariants as operations
-use Rattle.s7_base.specs.declared.operation.BitLogic.{BitLogic}
-use Rattle.s7_base.specs.declared.operation.BitLogic.TheVariants as bit_logic
-use Rattle.s7_base.specs.declared.operation.Transfer.{Transfer}
-use Rattle.s7_base.specs.declared.operation.Transfer.TheVariants as transfers
-use Rattle.s7_base.specs.declared.operation.Arithmetic.{Arithmetic}
-use Rattle.s7_base.specs.declared.operation.Arithmetic.TheVariants as arithmetic
-use Rattle.s7_base.specs.declared.operation.Comparison.{Comparison}
-use Rattle.s7_base.specs.declared.operation.Comparison.TheVariants as comparisons
-use Rattle.s7_base.specs.declared.operation.WordLogic.{WordLogic}
-use Rattle.s7_base.specs.declared.operation.WordLogic.TheVariants as word_logic
-use Rattle.s7_base.specs.declared.operation.ShiftRotate.{ShiftRotate}
-use Rattle.s7_base.specs.declared.operation.ShiftRotate.TheVariants as shift_rotates
-use Rattle.s7_base.specs.declared.operation.Branch.{Branch}
-use Rattle.s7_base.specs.declared.operation.Branch.TheVariants as branches
-use Rattle.s7_base.specs.declared.operation.TimerControl.{TimerControl}
-use Rattle.s7_base.specs.declared.operation.TimerControl.TheVariants as timer_controls
-use Rattle.s7_base.specs.declared.operation.CounterControl.{CounterControl}
-use Rattle.s7_base.specs.declared.operation.CounterControl.TheVariants as counter_controls
-use Rattle.s7_base.specs.declared.operation.BlockControl.{BlockControl}
-use Rattle.s7_base.specs.declared.operation.BlockControl.TheVariants as block_controls
-use Rattle.s7_base.specs.declared.operands.OperandArea.TheVariants as areas
+use Rattle.instruction_set.specs.declared.table.InstructionRow.{InstructionRow}
+use Rattle.instruction_set.specs.declared.operation.Operation.{Operation}
+use Rattle.instruction_set.specs.declared.operation.Operation.TheVariants as operations
+use Rattle.instruction_set.specs.declared.operation.BitLogic.{BitLogic}
+use Rattle.instruction_set.specs.declared.operation.BitLogic.TheVariants as bit_logic
+use Rattle.instruction_set.specs.declared.operation.Transfer.{Transfer}
+use Rattle.instruction_set.specs.declared.operation.Transfer.TheVariants as transfers
+use Rattle.instruction_set.specs.declared.operation.Arithmetic.{Arithmetic}
+use Rattle.instruction_set.specs.declared.operation.Arithmetic.TheVariants as arithmetic
+use Rattle.instruction_set.specs.declared.operation.Comparison.{Comparison}
+use Rattle.instruction_set.specs.declared.operation.Comparison.TheVariants as comparisons
+use Rattle.instruction_set.specs.declared.operation.WordLogic.{WordLogic}
+use Rattle.instruction_set.specs.declared.operation.WordLogic.TheVariants as word_logic
+use Rattle.instruction_set.specs.declared.operation.ShiftRotate.{ShiftRotate}
+use Rattle.instruction_set.specs.declared.operation.ShiftRotate.TheVariants as shift_rotates
+use Rattle.instruction_set.specs.declared.operation.Branch.{Branch}
+use Rattle.instruction_set.specs.declared.operation.Branch.TheVariants as branches
+use Rattle.instruction_set.specs.declared.operation.TimerControl.{TimerControl}
+use Rattle.instruction_set.specs.declared.operation.TimerControl.TheVariants as timer_controls
+use Rattle.instruction_set.specs.declared.operation.CounterControl.{CounterControl}
+use Rattle.instruction_set.specs.declared.operation.CounterControl.TheVariants as counter_controls
+use Rattle.instruction_set.specs.declared.operation.BlockControl.{BlockControl}
+use Rattle.instruction_set.specs.declared.operation.BlockControl.TheVariants as block_controls
+use Rattle.instruction_set.specs.declared.operands.OperandArea.TheVariants as areas
 use Rattle.s7_base.specs.Operands.{is_in, is_up_to}
-use Rattle.s7_base.specs.Rows.{row_of}
-use Rattle.s7_base.specs.Optional.{◌>>=◌}
+use Rattle.instruction_set.specs.Rows.{row_of}
+use Rattle.s7_events.specs.Optional.{◌>>=◌}
 use Rattle.status_word.specs.declared.status.Check.{Check}
 use Rattle.status_word.specs.declared.status.Check.TheVariants as checks
 use Rattle.status_word.specs.declared.jumps.Jump.TheVariants as jump_kinds

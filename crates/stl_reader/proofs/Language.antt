@@ -6,15 +6,15 @@ use Rattle.std.specs.Str.{bytes_eq}
 use Rattle.std.proofs.lemmas.Bool.{and_parts}
 use Rattle.std.proofs.lemmas.Option.{slice_get-get_or}
 use Rattle.std.proofs.lemmas.List.Quantifiers.{position-Some}
-use Rattle.s7_base.specs.declared.operands.OperandKind.{OperandKind}
-use Rattle.s7_base.specs.declared.operands.OperandKind.TheVariants as kinds
-use Rattle.s7_base.specs.declared.operation.Operation.TheVariants as groups
-use Rattle.s7_base.specs.declared.operation.BitLogic.TheVariants as logic
-use Rattle.s7_base.specs.declared.table.InstructionRow.{InstructionRow}
-use Rattle.s7_base.specs.InstructionSet.{instruction_set}
+use Rattle.instruction_set.specs.declared.operands.OperandKind.{OperandKind}
+use Rattle.instruction_set.specs.declared.operands.OperandKind.TheVariants as kinds
+use Rattle.instruction_set.specs.declared.operation.Operation.TheVariants as groups
+use Rattle.instruction_set.specs.declared.operation.BitLogic.TheVariants as logic
+use Rattle.instruction_set.specs.declared.table.InstructionRow.{InstructionRow}
+use Rattle.instruction_set.specs.InstructionSet.{instruction_set}
 use Rattle.s7_base.specs.declared.statement.Statement.{Statement}
 use Rattle.s7_base.specs.Operands.{allows}
-use Rattle.s7_base.specs.Rows.{row_of}
+use Rattle.instruction_set.specs.Rows.{row_of}
 use Rattle.s7_base.specs.Statements.{is_of_row, is_statement}
 use Rattle.stl_lex.specs.declared.token.Token.{Token}
 use Rattle.stl_decl.specs.declared.fault.Fault.{Fault}

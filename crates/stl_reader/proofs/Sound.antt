@@ -5,7 +5,7 @@ use Rattle.std.specs.Option.{option_to_list}
 use Rattle.std.proofs.lemmas.List.{map-append}
 use Rattle.std.proofs.lemmas.List.Elements.{All-append, All-nil, All-cons}
 use Rattle.s7_base.specs.declared.blocks.CodeKind.{CodeKind}
-use Rattle.s7_base.specs.declared.operands.OperandArea.TheVariants.{Target}
+use Rattle.instruction_set.specs.declared.operands.OperandArea.TheVariants.{Target}
 use Rattle.s7_base.specs.Operands.{is_in}
 use Rattle.s7_base.specs.Statements.{is_statement}
 use Rattle.stl_lex.specs.declared.token.Token.{Token}

@@ -1,8 +1,8 @@
 -- Constants as operands, and the comparisons with 0.
 use Rattle.std.specs.Prelude.{ℕ, List, [], ◌∷◌, ◌&&◌, ◌||◌, nat_lt, Bool, true, false, Option, Some, None, Result, Ok, Err, if◌then◌else◌, codes}
 use Rattle.std.specs.Str.{bytes_eq}
-use Rattle.s7_base.specs.declared.operands.OperandArea.{OperandArea}
-use Rattle.s7_base.specs.declared.operands.OperandArea.TheVariants as areas
+use Rattle.instruction_set.specs.declared.operands.OperandArea.{OperandArea}
+use Rattle.instruction_set.specs.declared.operands.OperandArea.TheVariants as areas
 use Rattle.stl_lex.specs.declared.piece.TokenKind.{TokenKind}
 use Rattle.stl_lex.specs.declared.piece.TokenKind.TheVariants as kinds
 use Rattle.stl_lex.specs.declared.token.Token.{Token}

@@ -2,9 +2,9 @@
 use Rattle.std.specs.Prelude.{ℕ, List, Bool, true, false, ◌&&◌, ◌==◌, if◌then◌else◌}
 use Rattle.std.specs.List.{list_any}
 use Rattle.std.specs.Str.{bytes_eq}
-use Rattle.s7_base.specs.declared.operands.OperandKind.{OperandKind}
-use Rattle.s7_base.specs.declared.operands.OperandKind.TheVariants as kinds
-use Rattle.s7_base.specs.InstructionSet.{instruction_set}
+use Rattle.instruction_set.specs.declared.operands.OperandKind.{OperandKind}
+use Rattle.instruction_set.specs.declared.operands.OperandKind.TheVariants as kinds
+use Rattle.instruction_set.specs.InstructionSet.{instruction_set}
 use Rattle.stl_reader.specs.declared.forms.OperandForm.{OperandForm}
 use Rattle.stl_reader.specs.declared.forms.OperandForm.TheVariants as forms
 

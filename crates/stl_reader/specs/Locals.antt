@@ -1,6 +1,6 @@
 -- Named locals as operands, with a constant index behind the names of arrays.
 use Rattle.std.specs.Prelude.{ℕ, List, drop, ◌==◌, ◌/◌, ◌%◌, min, Bool, false, Option, Some, None, Result, Ok, Err, if◌then◌else◌}
-use Rattle.s7_base.specs.declared.operands.OperandArea.TheVariants as areas
+use Rattle.instruction_set.specs.declared.operands.OperandArea.TheVariants as areas
 use Rattle.stl_lex.specs.declared.token.Token.{Token}
 use Rattle.stl_decl.specs.declared.fault.Fault.{Fault}
 use Rattle.stl_decl.specs.declared.fault.FaultKind.TheVariants.{BadOperand, UnknownName}

@@ -6,8 +6,8 @@ use Rattle.stl_lex.specs.declared.token.Token.{Token}
 use Rattle.stl_decl.specs.declared.fault.FaultKind.TheVariants.{UnknownInstruction}
 use Rattle.stl_decl.specs.declared.fault.Fault.{Fault}
 use Rattle.stl_decl.specs.Steps.{spelling, end_fault, fault_at}
-use Rattle.s7_base.specs.declared.table.InstructionRow.{InstructionRow}
-use Rattle.s7_base.specs.InstructionSet.{instruction_set}
+use Rattle.instruction_set.specs.declared.table.InstructionRow.{InstructionRow}
+use Rattle.instruction_set.specs.InstructionSet.{instruction_set}
 use Rattle.stl_reader.specs.RefusedInstructions.{refused_instructions}
 use Rattle.stl_reader.specs.declared.mnemonics.RefusedInstruction.{RefusedInstruction}
 use Rattle.stl_reader.specs.declared.mnemonics.Meaning.{Meaning}

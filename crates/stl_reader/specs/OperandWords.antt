@@ -3,8 +3,8 @@
 use Rattle.std.specs.Prelude.{ℕ, List, [], ◌∷◌, ◌++◌, codes}
 use Prim.Native.String.{String}
 use Rattle.stl_lex.specs.Bytes.{in_field}
-use Rattle.s7_base.specs.declared.operands.OperandArea.{OperandArea}
-use Rattle.s7_base.specs.declared.operands.OperandArea.TheVariants as areas
+use Rattle.instruction_set.specs.declared.operands.OperandArea.{OperandArea}
+use Rattle.instruction_set.specs.declared.operands.OperandArea.TheVariants as areas
 use Rattle.stl_reader.specs.declared.forms.OperandForm.{OperandForm}
 use Rattle.stl_reader.specs.declared.forms.OperandForm.TheVariants as forms
 use Rattle.stl_reader.specs.declared.words.OperandWord.{OperandWord}

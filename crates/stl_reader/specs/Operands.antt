@@ -2,8 +2,8 @@
 use Rattle.std.specs.Prelude.{ℕ, List, [], ◌∷◌, length, drop, ◌==◌, ◌&&◌, ◌||◌, not, ◌^◌, min, Bool, true, false, Option, Some, None, Result, Ok, Err, if◌then◌else◌, codes}
 use Rattle.std.specs.List.{list_all}
 use Rattle.std.specs.Char.{is_ascii_digit, to_ascii_uppercase}
-use Rattle.s7_base.specs.declared.operands.OperandArea.{OperandArea}
-use Rattle.s7_base.specs.declared.operands.OperandArea.TheVariants as areas
+use Rattle.instruction_set.specs.declared.operands.OperandArea.{OperandArea}
+use Rattle.instruction_set.specs.declared.operands.OperandArea.TheVariants as areas
 use Rattle.stl_lex.specs.Bytes.{begins}
 use Rattle.stl_lex.specs.Numerals.{value_of}
 use Rattle.stl_lex.specs.declared.token.Token.{Token}

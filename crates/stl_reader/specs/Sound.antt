@@ -1,6 +1,6 @@
 -- What holds of each body that is read.
 use Rattle.std.specs.Prelude.{◌≡◌, ◌≤◌, ℕ, List, [], ◌∷◌, ◌++◌, ◌+◌, length, map, All, IsTrue, if◌then◌else◌}
-use Rattle.s7_base.specs.declared.operands.OperandArea.TheVariants.{Target}
+use Rattle.instruction_set.specs.declared.operands.OperandArea.TheVariants.{Target}
 use Rattle.s7_base.specs.Operands.{is_in}
 use Rattle.s7_base.specs.Statements.{is_statement}
 use Rattle.stl_reader.specs.declared.items.BodyStatement.{BodyStatement}

@@ -3,10 +3,11 @@ use Rattle.std.specs.Prelude.{ℕ, List, [], ◌∷◌, ◌&&◌, ◌||◌, not,
 use Rattle.std.specs.Borrow.{Bor}
 use Rattle.std.specs.List.{position}
 use Rattle.std.specs.Str.{bytes_eq}
-use Rattle.s7_base.specs.declared.operands.OperandArea.TheVariants as areas
+use Rattle.instruction_set.specs.declared.operands.OperandArea.TheVariants as areas
 use Rattle.s7_base.specs.declared.statement.Statement.{Statement}
-use Rattle.s7_base.specs.InstructionSet.{instruction_set}
-use Rattle.s7_base.specs.Operands.{allows, area_number, is_in}
+use Rattle.instruction_set.specs.InstructionSet.{instruction_set}
+use Rattle.instruction_set.specs.Areas.{area_number}
+use Rattle.s7_base.specs.Operands.{allows, is_in}
 use Rattle.stl_lex.specs.Bytes.{spells}
 use Rattle.stl_lex.specs.declared.piece.TokenKind.{TokenKind}
 use Rattle.stl_lex.specs.declared.piece.TokenKind.TheVariants as kinds

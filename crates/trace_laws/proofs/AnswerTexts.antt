@@ -5,21 +5,21 @@ use Rattle.std.specs.Fmt.{decimal}
 use Rattle.std.proofs.lemmas.List.{append_assoc, append_cancel_left}
 use Rattle.std.proofs.lemmas.List.FromFn.{length-map-range_with_len}
 use Rattle.std.proofs.lemmas.Fmt.{decimal_injective}
-use Rattle.s7_base.specs.declared.entry.Side.{Side}
-use Rattle.s7_base.specs.declared.entry.Side.TheVariants.{A, B}
-use Rattle.s7_base.specs.declared.entry.Loss.{Loss}
-use Rattle.s7_base.specs.declared.entry.Loss.TheVariants.{Failed, Suspect}
-use Rattle.s7_base.specs.declared.entry.StopCode.{StopCode}
-use Rattle.s7_base.specs.declared.entry.StopCode.TheVariants as stops
-use Rattle.s7_base.specs.declared.entry.Ask.{Ask}
-use Rattle.s7_base.specs.declared.entry.Ask.TheVariants as asks
-use Rattle.s7_base.specs.declared.entry.Answer.{Answer}
-use Rattle.s7_base.specs.declared.entry.Answer.TheVariants as answers
+use Rattle.s7_events.specs.declared.entry.Side.{Side}
+use Rattle.s7_events.specs.declared.entry.Side.TheVariants.{A, B}
+use Rattle.s7_events.specs.declared.entry.Loss.{Loss}
+use Rattle.s7_events.specs.declared.entry.Loss.TheVariants.{Failed, Suspect}
+use Rattle.s7_events.specs.declared.entry.StopCode.{StopCode}
+use Rattle.s7_events.specs.declared.entry.StopCode.TheVariants as stops
+use Rattle.s7_events.specs.declared.entry.Ask.{Ask}
+use Rattle.s7_events.specs.declared.entry.Ask.TheVariants as asks
+use Rattle.s7_events.specs.declared.entry.Answer.{Answer}
+use Rattle.s7_events.specs.declared.entry.Answer.TheVariants as answers
 use Rattle.plant_script.specs.Plan.{Plan}
 use Rattle.plant_script.specs.InputImage.{image_byte, input_image}
 use Rattle.pair_core.specs.declared.standing.Standing.{Standing}
 use Rattle.pair_core.specs.Cuts.{is_cut}
-use Rattle.s7_base.specs.declared.entry.StopCode.TheVariants as stops
+use Rattle.s7_events.specs.declared.entry.StopCode.TheVariants as stops
 use Rattle.pair_core.specs.Monitor.{is_overdue}
 use Rattle.pair_core.specs.Lawful.{IsPlainAnswer, IsMonitoredAnswer, IsLawfulAnswer}
 use Rattle.pair_core.specs.Image.{hex, image}

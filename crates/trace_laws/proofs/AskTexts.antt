@@ -4,8 +4,8 @@ use Rattle.std.specs.Prelude.{Option, Some, None, get_or, codes}
 use Rattle.std.specs.Fmt.{decimal}
 use Rattle.std.proofs.lemmas.List.{append_assoc, append_cancel_left}
 use Rattle.std.proofs.lemmas.Fmt.{decimal_injective}
-use Rattle.s7_base.specs.declared.entry.Ask.{Ask}
-use Rattle.s7_base.specs.declared.entry.Ask.TheVariants as asks
+use Rattle.s7_events.specs.declared.entry.Ask.{Ask}
+use Rattle.s7_events.specs.declared.entry.Ask.TheVariants as asks
 use Rattle.pair_core.specs.Image.{hex, image}
 use Rattle.pair_core.specs.EntryText.{stop_word, reply_text, ask_text}
 use Rattle.trace_laws.specs.Determines.{IsInRange}

@@ -4,11 +4,11 @@ use Rattle.std.specs.Prelude.{Option, Some, codes}
 use Rattle.std.specs.Fmt.{decimal}
 use Rattle.std.proofs.lemmas.List.{append_assoc, append_cancel_left, same_from_push}
 use Rattle.std.proofs.lemmas.List.Elements.{All-head, All-tail}
-use Rattle.s7_base.specs.declared.entry.StopCode.{StopCode}
-use Rattle.s7_base.specs.declared.entry.Ask.{Ask}
-use Rattle.s7_base.specs.declared.entry.Answer.{Answer}
-use Rattle.s7_base.specs.declared.entry.Request.{Request}
-use Rattle.s7_base.specs.declared.entry.Entry.{Entry}
+use Rattle.s7_events.specs.declared.entry.StopCode.{StopCode}
+use Rattle.s7_events.specs.declared.entry.Ask.{Ask}
+use Rattle.s7_events.specs.declared.entry.Answer.{Answer}
+use Rattle.s7_events.specs.declared.entry.Request.{Request}
+use Rattle.s7_events.specs.declared.entry.Entry.{Entry}
 use Rattle.s7_base.specs.Blocks.{Program}
 use Rattle.mc_machine.specs.Meaning.{std, next_of, asked_after}
 use Rattle.plant_script.specs.Plan.{Plan}

@@ -1,10 +1,10 @@
 -- What the text of a run tells.
 use Rattle.std.specs.Prelude.{◌≡◌, ℕ, ◌<◌, ◌^◌, Bool, Some, None, List, length, All}
-use Rattle.s7_base.specs.declared.entry.Side.{Side}
-use Rattle.s7_base.specs.declared.entry.Ask.{Ask}
-use Rattle.s7_base.specs.declared.entry.Ask.TheVariants as asks
-use Rattle.s7_base.specs.declared.entry.Request.{Request}
-use Rattle.s7_base.specs.declared.entry.Entry.{Entry}
+use Rattle.s7_events.specs.declared.entry.Side.{Side}
+use Rattle.s7_events.specs.declared.entry.Ask.{Ask}
+use Rattle.s7_events.specs.declared.entry.Ask.TheVariants as asks
+use Rattle.s7_events.specs.declared.entry.Request.{Request}
+use Rattle.s7_events.specs.declared.entry.Entry.{Entry}
 use Rattle.s7_base.specs.Blocks.{Program}
 use Rattle.plant_script.specs.Plan.{Plan}
 use Rattle.pair_core.specs.declared.endings.Mode.{Mode}

@@ -1,8 +1,8 @@
 -- The text of the entries that are left, at one of them.
 use Rattle.std.proofs.Common.{◌≡◌, ℕ, ◌+◌, ◌<◌, List, ◌++◌, drop, get_or, length, ap, ◌∙◌, sym}
 use Rattle.std.proofs.lemmas.List.{drop_more}
-use Rattle.s7_base.specs.declared.entry.Entry.{Entry}
-use Rattle.s7_base.specs.declared.entry.Side.{Side}
+use Rattle.s7_events.specs.declared.entry.Entry.{Entry}
+use Rattle.s7_events.specs.declared.entry.Side.{Side}
 use Rattle.pair_core.specs.Text.{entry_text, entries_text, behind_showing}
 
 pub entries_at : (entries : List Entry) (k : ℕ) (d : Entry) (shown left : List (ℕ × Side)) → k < length entries

@@ -1,7 +1,7 @@
 -- The lines of the notes that are left, at one of them.
 use Rattle.std.proofs.Common.{◌≡◌, ℕ, ◌+◌, List, ◌++◌, drop, Some, ap, ◌∙◌, sym}
 use Rattle.std.specs.List.{slice_get}
-use Rattle.s7_base.specs.declared.diagnostics.DiagCode.{DiagCode}
+use Rattle.s7_events.specs.declared.diagnostics.DiagCode.{DiagCode}
 use Rattle.pair_core.specs.Tail.{note_line, note_lines}
 use Rattle.trace_printer.proofs.Lists.{drop_at}
 

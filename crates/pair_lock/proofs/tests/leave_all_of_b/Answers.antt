@@ -1,5 +1,5 @@
 use Rattle.std.proofs.Common.{rules, ap, ◌∙◌}
-use Rattle.s7_base.specs.declared.entry.Side.TheVariants.{B}
+use Rattle.s7_events.specs.declared.entry.Side.TheVariants.{B}
 use Rattle.pair_lock.specs.Views.{update}
 use Rattle.pair_lock.proofs.tests.leave_all_of_b.Goals as goal
 

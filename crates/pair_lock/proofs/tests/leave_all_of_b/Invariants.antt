@@ -1,4 +1,4 @@
-use Rattle.s7_base.specs.declared.entry.Side.TheVariants.{B}
+use Rattle.s7_events.specs.declared.entry.Side.TheVariants.{B}
 use Rattle.pair_lock.specs.declared.tests.Notes.{Notes}
 use Rattle.pair_lock.specs.Seats.{lock_id, IsOf, Knows}
 use Rattle.pair_lock.proofs.tests.leave_all_of_b.Given as goal

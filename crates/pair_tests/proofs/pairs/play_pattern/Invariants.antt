@@ -1,4 +1,4 @@
-use Rattle.s7_base.specs.declared.entry.Side.TheVariants.{A, B}
+use Rattle.s7_events.specs.declared.entry.Side.TheVariants.{A, B}
 use Rattle.pair_core.specs.World.{part}
 use Rattle.pair_core.specs.Places.{IsAt}
 use Rattle.pair_tests.proofs.pairs.play_pattern.Given as goal

@@ -1,8 +1,8 @@
 -- How a play ends.
 use Rattle.std.proofs.Common.{◌≡◌, ℕ, List, true, sym, ap, subst}
-use Rattle.s7_base.specs.declared.entry.Side.{Side}
-use Rattle.s7_base.specs.declared.entry.Side.TheVariants.{A, B}
-use Rattle.s7_base.specs.declared.entry.Entry.{Entry}
+use Rattle.s7_events.specs.declared.entry.Side.{Side}
+use Rattle.s7_events.specs.declared.entry.Side.TheVariants.{A, B}
+use Rattle.s7_events.specs.declared.entry.Entry.{Entry}
 use Rattle.pair_core.specs.declared.endings.Ended.{Ended}
 use Rattle.pair_core.specs.Sides.{runs}
 use Rattle.pair_core.specs.World.{part, standing_in}

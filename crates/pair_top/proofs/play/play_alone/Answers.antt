@@ -1,7 +1,7 @@
 -- Visits of side A alone.
 use Rattle.std.proofs.Common.{◌≡◌, ◌+◌, ◌*◌, ◌-◌, ◌++◌, ◌∷◌, [], List, replicate, true, false, refl, sym, ◌∙◌, ap, subst}
-use Rattle.s7_base.specs.declared.entry.Side.{Side}
-use Rattle.s7_base.specs.declared.entry.Side.TheVariants.{A}
+use Rattle.s7_events.specs.declared.entry.Side.{Side}
+use Rattle.s7_events.specs.declared.entry.Side.TheVariants.{A}
 use Rattle.pair_core.specs.World.{Setup}
 use Rattle.pair_core.specs.Turns.{is_over}
 use Rattle.pair_top.specs.Playing.{Plays}

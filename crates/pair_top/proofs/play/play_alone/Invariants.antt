@@ -1,5 +1,5 @@
 use Rattle.std.proofs.Common.{◌≡◌, ◌+◌, ◌*◌, ◌-◌, replicate}
-use Rattle.s7_base.specs.declared.entry.Side.TheVariants.{A}
+use Rattle.s7_events.specs.declared.entry.Side.TheVariants.{A}
 use Rattle.pair_core.specs.Progress.{IsAlone}
 use Rattle.pair_top.specs.Playing.{AreAt}
 use Rattle.pair_top.proofs.Plays.{Reaches}

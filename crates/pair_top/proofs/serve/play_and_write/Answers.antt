@@ -1,6 +1,6 @@
 -- A play, and its text.
 use Rattle.std.proofs.Common.{sym, subst}
-use Rattle.s7_base.specs.declared.entry.Side.TheVariants.{A, B}
+use Rattle.s7_events.specs.declared.entry.Side.TheVariants.{A, B}
 use Rattle.pair_core.specs.declared.endings.Mode.{Mode}
 use Rattle.pair_core.specs.CpuTail.{tail_of}
 use Rattle.pair_core.specs.Text.{text}

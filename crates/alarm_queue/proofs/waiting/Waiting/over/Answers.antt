@@ -1,7 +1,7 @@
 use Rattle.std.proofs.Common.{◌≡◌, ◌+◌, false, vec_len, sym, subst, arith, rules}
 use Rattle.std.specs.Prelude.{All, IsTrue}
 use Rattle.std.specs.List.{filter, filter_map}
-use Rattle.s7_base.specs.Priorities.{is_cyclic}
+use Rattle.s7_events.specs.Priorities.{is_cyclic}
 use Rattle.alarm_queue.specs.Order.{waits_once}
 use Rattle.alarm_queue.specs.Due.{alarm_of, is_loaded, cyclic_obs}
 use Rattle.alarm_queue.specs.Cursor.{IsPast}

@@ -1,5 +1,5 @@
 use Rattle.std.proofs.Common.{◌≡◌, ◌∙◌, ◌*◌, [], length, ap, sym, subst, arith}
-use Rattle.s7_base.specs.declared.entry.Side.TheVariants.{A, B}
+use Rattle.s7_events.specs.declared.entry.Side.TheVariants.{A, B}
 use Rattle.pair_core.specs.Sides.{standing}
 use Rattle.pair_core.specs.CutsKept.{IsCutsAt}
 use Rattle.pair_core.specs.Monitor.{watch_of}

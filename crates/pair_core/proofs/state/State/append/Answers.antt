@@ -1,6 +1,6 @@
 use Rattle.std.proofs.Common.{◌≡◌, ◌∙◌, ◌++◌, ◌∷◌, [], true, length, refl, sym, ap, subst}
 use Rattle.std.proofs.lemmas.List.{length-map}
-use Rattle.s7_base.specs.declared.entry.Entry.{Entry}
+use Rattle.s7_events.specs.declared.entry.Entry.{Entry}
 use Rattle.mc_machine.specs.Meaning.{is_dated}
 use Rattle.pair_core.specs.Played.{answers_of}
 use Rattle.pair_core.specs.World.{part_in, standing_in}

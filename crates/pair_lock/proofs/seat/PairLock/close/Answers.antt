@@ -1,6 +1,6 @@
 use Rattle.std.proofs.Common.{rules, ap, sym, subst, ◌∙◌, ◌≡◌}
 use mathlib.Core.Option.{some-injective}
-use Rattle.s7_base.specs.declared.entry.Side.TheVariants.{A, B}
+use Rattle.s7_events.specs.declared.entry.Side.TheVariants.{A, B}
 use Rattle.pair_lock.specs.Turns.{FollowsKnown}
 use Rattle.pair_lock.proofs.Turning.{joins_seats, closes_both}
 use Rattle.pair_lock.proofs.seat.PairLock.close.Goals as goal

@@ -2,7 +2,7 @@ use Rattle.std.proofs.Common.{rules, arith, is_some, ap, sym, subst, ◌∙◌}
 use Rattle.pair_lock.specs.Meetings.{CalledWith, TakesWith}
 use Rattle.pair_lock.specs.Views.{update}
 use Rattle.pair_lock.specs.Seats.{view_of}
-use Rattle.s7_base.specs.declared.entry.Side.TheVariants.{A, B}
+use Rattle.s7_events.specs.declared.entry.Side.TheVariants.{A, B}
 use Rattle.pair_lock.proofs.Turning.{same_known, keeps_same, keeps_held, learns, learned_side}
 use Rattle.pair_lock.proofs.seat.PairLock.meet_with.Goals as goal
 

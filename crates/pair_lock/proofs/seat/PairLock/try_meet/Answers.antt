@@ -1,5 +1,5 @@
 use Rattle.std.proofs.Common.{rules, ap}
-use Rattle.s7_base.specs.declared.entry.Side.TheVariants.{A, B}
+use Rattle.s7_events.specs.declared.entry.Side.TheVariants.{A, B}
 use Rattle.pair_lock.proofs.Turning.{keeps_held, learns, learned_side}
 use Rattle.pair_lock.proofs.seat.PairLock.try_meet.Goals as goal
 

@@ -1,7 +1,7 @@
 -- A byte of a subsystem is that of its tail.
 use Rattle.std.proofs.Common.{◌≡◌, ℕ, Option, Some, None, refl, ◌∙◌, slice_get}
-use Rattle.s7_base.specs.declared.diagnostics.Area.{Area}
-use Rattle.s7_base.specs.declared.diagnostics.Area.TheVariants.{I, Q, M, Db, Timers, Counters, Registers}
+use Rattle.s7_events.specs.declared.diagnostics.Area.{Area}
+use Rattle.s7_events.specs.declared.diagnostics.Area.TheVariants.{I, Q, M, Db, Timers, Counters, Registers}
 use Rattle.mc_machine.specs.Stands.{Running, IsRunning, byte_of}
 use Rattle.pair_core.specs.CpuTail.{tail_of}
 use Rattle.pair_core.specs.Tail.{IsTailArea, area_bytes}

@@ -1,7 +1,7 @@
 //! The instruction set in one table.
 ghost use Rattle.std.specs.Prelude.{◌≡◌, slice_get, IsSomeAnd};
-ghost use Rattle.s7_base.specs.InstructionSet.{instruction_set};
-ghost use Rattle.s7_base.specs.Rows.{row_of};
+ghost use Rattle.instruction_set.specs.InstructionSet.{instruction_set};
+ghost use Rattle.instruction_set.specs.Rows.{row_of};
 
 use crate::operands::OperandKind;
 use crate::operation::{

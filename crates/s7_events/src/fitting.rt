@@ -1,6 +1,6 @@
 //! Which answers fit a request.
 ghost use Rattle.std.specs.Prelude.{◌≡◌, ◌^◌, ◌*◌, nat_lt};
-ghost use Rattle.s7_base.specs.Fitting.{has_width, is_job, ends, fits};
+ghost use Rattle.s7_events.specs.Fitting.{has_width, is_job, ends, fits};
 
 use crate::priorities::{is_alarm_ob, priority};
 use crate::{Answer, Ask, Job, Request, StopCode};

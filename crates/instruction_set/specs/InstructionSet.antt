@@ -3,22 +3,22 @@
 -- number; a mnemonic that takes operands of several kinds has an entry for each of its operations.
 use Rattle.std.specs.Prelude.{ℕ, ◌-◌, ◌++◌, List, [], ◌∷◌, length, replicate, codes}
 use Prim.Native.String.{String}
-use Rattle.s7_base.specs.declared.table.InstructionRow.{InstructionRow}
-use Rattle.s7_base.specs.declared.operands.OperandKind.{OperandKind}
-use Rattle.s7_base.specs.declared.operands.OperandKind.TheVariants as kinds
-use Rattle.s7_base.specs.declared.operation.Operation.{Operation}
-use Rattle.s7_base.specs.declared.operation.Operation.TheVariants as groups
-use Rattle.s7_base.specs.declared.operation.BitLogic.TheVariants as bits
-use Rattle.s7_base.specs.declared.operation.Transfer.TheVariants as moves
-use Rattle.s7_base.specs.declared.operation.Arithmetic.TheVariants as integers
-use Rattle.s7_base.specs.declared.operation.Comparison.TheVariants as compares
-use Rattle.s7_base.specs.declared.operation.WordLogic.TheVariants as word_logic
-use Rattle.s7_base.specs.declared.operation.ShiftRotate.TheVariants as moved
-use Rattle.s7_base.specs.declared.operation.Branch.TheVariants as branches
-use Rattle.s7_base.specs.declared.operation.TimerControl.TheVariants as timing
-use Rattle.s7_base.specs.declared.operation.CounterControl.TheVariants as counting
-use Rattle.s7_base.specs.declared.operation.BlockControl.TheVariants as control
-use Rattle.s7_base.specs.declared.operation.NoOperation.TheVariants as idle
+use Rattle.instruction_set.specs.declared.table.InstructionRow.{InstructionRow}
+use Rattle.instruction_set.specs.declared.operands.OperandKind.{OperandKind}
+use Rattle.instruction_set.specs.declared.operands.OperandKind.TheVariants as kinds
+use Rattle.instruction_set.specs.declared.operation.Operation.{Operation}
+use Rattle.instruction_set.specs.declared.operation.Operation.TheVariants as groups
+use Rattle.instruction_set.specs.declared.operation.BitLogic.TheVariants as bits
+use Rattle.instruction_set.specs.declared.operation.Transfer.TheVariants as moves
+use Rattle.instruction_set.specs.declared.operation.Arithmetic.TheVariants as integers
+use Rattle.instruction_set.specs.declared.operation.Comparison.TheVariants as compares
+use Rattle.instruction_set.specs.declared.operation.WordLogic.TheVariants as word_logic
+use Rattle.instruction_set.specs.declared.operation.ShiftRotate.TheVariants as moved
+use Rattle.instruction_set.specs.declared.operation.Branch.TheVariants as branches
+use Rattle.instruction_set.specs.declared.operation.TimerControl.TheVariants as timing
+use Rattle.instruction_set.specs.declared.operation.CounterControl.TheVariants as counting
+use Rattle.instruction_set.specs.declared.operation.BlockControl.TheVariants as control
+use Rattle.instruction_set.specs.declared.operation.NoOperation.TheVariants as idle
 
 -- letters in a field of so many bytes: the bytes behind them are 0
 abbrev pub in_field : ℕ → List ℕ → List ℕ

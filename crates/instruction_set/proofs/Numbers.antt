@@ -1,38 +1,38 @@
 -- Each operation stands in the row of its number.
 use Rattle.std.proofs.Common.{◌≡◌, ◌+◌, refl, IsSomeAnd}
 use denote.Enum.Declared.{tag_of}
-use Rattle.s7_base.specs.declared.operation.Operation.TheVariants as groups
-use Rattle.s7_base.specs.Rows.{row_of}
-use Rattle.s7_base.specs.declared.operation.Transfer.{Transfer}
-use Rattle.s7_base.specs.declared.operation.Transfer.TheVariants as transfers
-use Rattle.s7_base.specs.contracts.operation.Transfer as transfer_type
-use Rattle.s7_base.specs.declared.operation.Arithmetic.{Arithmetic}
-use Rattle.s7_base.specs.declared.operation.Arithmetic.TheVariants as arithmetics
-use Rattle.s7_base.specs.contracts.operation.Arithmetic as arithmetic_type
-use Rattle.s7_base.specs.declared.operation.Comparison.{Comparison}
-use Rattle.s7_base.specs.declared.operation.Comparison.TheVariants as comparisons
-use Rattle.s7_base.specs.contracts.operation.Comparison as comparison_type
-use Rattle.s7_base.specs.declared.operation.WordLogic.{WordLogic}
-use Rattle.s7_base.specs.declared.operation.WordLogic.TheVariants as wordlogics
-use Rattle.s7_base.specs.contracts.operation.WordLogic as wordlogic_type
-use Rattle.s7_base.specs.declared.operation.ShiftRotate.{ShiftRotate}
-use Rattle.s7_base.specs.declared.operation.ShiftRotate.TheVariants as shiftrotates
-use Rattle.s7_base.specs.contracts.operation.ShiftRotate as shiftrotate_type
-use Rattle.s7_base.specs.declared.operation.Branch.{Branch}
-use Rattle.s7_base.specs.declared.operation.Branch.TheVariants as branchs
-use Rattle.s7_base.specs.contracts.operation.Branch as branch_type
-use Rattle.s7_base.specs.declared.operation.TimerControl.{TimerControl}
-use Rattle.s7_base.specs.declared.operation.TimerControl.TheVariants as timercontrols
-use Rattle.s7_base.specs.contracts.operation.TimerControl as timercontrol_type
-use Rattle.s7_base.specs.declared.operation.CounterControl.{CounterControl}
-use Rattle.s7_base.specs.declared.operation.CounterControl.TheVariants as countercontrols
-use Rattle.s7_base.specs.contracts.operation.CounterControl as countercontrol_type
-use Rattle.s7_base.specs.declared.operation.BlockControl.{BlockControl}
-use Rattle.s7_base.specs.declared.operation.BlockControl.TheVariants as blockcontrols
-use Rattle.s7_base.specs.contracts.operation.BlockControl as blockcontrol_type
-use Rattle.s7_base.specs.declared.operation.NoOperation.{NoOperation}
-use Rattle.s7_base.specs.declared.operation.NoOperation.TheVariants as nooperations
-use Rattle.s7_base.specs.contracts.operation.NoOperation as nooperation_type
+use Rattle.instruction_set.specs.declared.operation.Operation.TheVariants as groups
+use Rattle.instruction_set.specs.Rows.{row_of}
+use Rattle.instruction_set.specs.declared.operation.Transfer.{Transfer}
+use Rattle.instruction_set.specs.declared.operation.Transfer.TheVariants as transfers
+use Rattle.instruction_set.specs.contracts.operation.Transfer as transfer_type
+use Rattle.instruction_set.specs.declared.operation.Arithmetic.{Arithmetic}
+use Rattle.instruction_set.specs.declared.operation.Arithmetic.TheVariants as arithmetics
+use Rattle.instruction_set.specs.contracts.operation.Arithmetic as arithmetic_type
+use Rattle.instruction_set.specs.declared.operation.Comparison.{Comparison}
+use Rattle.instruction_set.specs.declared.operation.Comparison.TheVariants as comparisons
+use Rattle.instruction_set.specs.contracts.operation.Comparison as comparison_type
+use Rattle.instruction_set.specs.declared.operation.WordLogic.{WordLogic}
+use Rattle.instruction_set.specs.declared.operation.WordLogic.TheVariants as wordlogics
+use Rattle.instruction_set.specs.contracts.operation.WordLogic as wordlogic_type
+use Rattle.instruction_set.specs.declared.operation.ShiftRotate.{ShiftRotate}
+use Rattle.instruction_set.specs.declared.operation.ShiftRotate.TheVariants as shiftrotates
+use Rattle.instruction_set.specs.contracts.operation.ShiftRotate as shiftrotate_type
+use Rattle.instruction_set.specs.declared.operation.Branch.{Branch}
+use Rattle.instruction_set.specs.declared.operation.Branch.TheVariants as branchs
+use Rattle.instruction_set.specs.contracts.operation.Branch as branch_type
+use Rattle.instruction_set.specs.declared.operation.TimerControl.{TimerControl}
+use Rattle.instruction_set.specs.declared.operation.TimerControl.TheVariants as timercontrols
+use Rattle.instruction_set.specs.contracts.operation.TimerControl as timercontrol_type
+use Rattle.instruction_set.specs.declared.operation.CounterControl.{CounterControl}
+use Rattle.instruction_set.specs.declared.operation.CounterControl.TheVariants as countercontrols
+use Rattle.instruction_set.specs.contracts.operation.CounterControl as countercontrol_type
+use Rattle.instruction_set.specs.declared.operation.BlockControl.{BlockControl}
+use Rattle.instruction_set.specs.declared.operation.BlockControl.TheVariants as blockcontrols
+use Rattle.instruction_set.specs.contracts.operation.BlockControl as blockcontrol_type
+use Rattle.instruction_set.specs.declared.operation.NoOperation.{NoOperation}
+use Rattle.instruction_set.specs.declared.operation.NoOperation.TheVariants as nooperations
+use Rattle.instruction_set.specs.contracts.operation.NoOperation as nooperation_type
 
 pub transfer_stands : (operation : Transfer) → IsSomeAnd (row_of (27 + tag_of transfer_type.the_type operation)) (λ row. row.operation ≡ groups.Transfer operation)
 unfolding row_of

@@ -1,6 +1,6 @@
 //! The kinds of operands, and the areas that stored operands name.
 ghost use Rattle.std.specs.Prelude.{◌≡◌};
-ghost use Rattle.s7_base.specs.Operands.{area_number};
+ghost use Rattle.instruction_set.specs.Areas.{area_number};
 
 /// The operands that an operation takes.
 #[derive(Clone, Copy, Debug, PartialEq, Eq)]

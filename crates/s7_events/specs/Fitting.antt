@@ -1,14 +1,14 @@
 -- Which answers fit a request.
 use Rattle.std.specs.Prelude.{ℕ, ◌*◌, ◌^◌, ◌==◌, ◌&&◌, ◌||◌, Bool, true, false, not, nat_lt, nat_le}
-use Rattle.s7_base.specs.declared.entry.Ask.{Ask}
-use Rattle.s7_base.specs.declared.entry.Ask.TheVariants as asks
-use Rattle.s7_base.specs.declared.entry.Request.{Request}
-use Rattle.s7_base.specs.declared.entry.Answer.{Answer}
-use Rattle.s7_base.specs.declared.entry.Answer.TheVariants.{Image, Value, Now, Done, Go, Hold, Alarm, Job, Lost, Back, NoModule, CpuStop}
-use Rattle.s7_base.specs.declared.entry.Job as jobs
-use Rattle.s7_base.specs.declared.entry.StopCode.{StopCode}
-use Rattle.s7_base.specs.declared.entry.StopCode.TheVariants.{Cycle}
-use Rattle.s7_base.specs.Priorities.{is_alarm, priority_of}
+use Rattle.s7_events.specs.declared.entry.Ask.{Ask}
+use Rattle.s7_events.specs.declared.entry.Ask.TheVariants as asks
+use Rattle.s7_events.specs.declared.entry.Request.{Request}
+use Rattle.s7_events.specs.declared.entry.Answer.{Answer}
+use Rattle.s7_events.specs.declared.entry.Answer.TheVariants.{Image, Value, Now, Done, Go, Hold, Alarm, Job, Lost, Back, NoModule, CpuStop}
+use Rattle.s7_events.specs.declared.entry.Job as jobs
+use Rattle.s7_events.specs.declared.entry.StopCode.{StopCode}
+use Rattle.s7_events.specs.declared.entry.StopCode.TheVariants.{Cycle}
+use Rattle.s7_events.specs.Priorities.{is_alarm, priority_of}
 
 -- the value lies in so many bytes
 abbrev pub has_width : ℕ → ℕ → Bool

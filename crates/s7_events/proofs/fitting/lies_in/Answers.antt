@@ -2,7 +2,7 @@
 use Rattle.std.proofs.Common.{◌≡◌, ℕ, ◌^◌, ◌*◌, ◌<◌, ◌≤◌, true, nat_lt, sym, arith}
 use Rattle.std.proofs.Math.Pow.{pow_mono}
 use Rattle.std.proofs.lemmas.Bool.{lt-ltb}
-use Rattle.s7_base.proofs.fitting.lies_in.Goals as goal
+use Rattle.s7_events.proofs.fitting.lies_in.Goals as goal
 
 wide : (value width : ℕ) → value < 2 ^ 32 → 4 ≤ width → nat_lt value (2 ^ (8 * width)) ≡ true
 wide value width fits enough =

@@ -17,6 +17,10 @@ is_alarm ob = is_cyclic ob || is_process ob || ob == 70 || ob == 72 || ob == 80 
 abbrev pub has_priority : ℕ → Bool
 has_priority ob = is_alarm ob || ob == 1 || ob == 85 || ob == 100
 
+-- the organisation blocks: those that start a level, and those for errors
+abbrev pub is_ob : ℕ → Bool
+is_ob number = has_priority number || number == 121 || number == 122
+
 abbrev pub priority_of : ℕ → ℕ
 priority_of ob =
     if is_cyclic ob then ob - 23

@@ -1,5 +1,5 @@
-use Rattle.s7_base.proofs.Numbers.{transfer_stands, arithmetic_stands, comparison_stands, word_logic_stands, shift_rotate_stands, branch_stands, timer_control_stands, counter_control_stands, block_control_stands, no_operation_stands}
-use Rattle.s7_base.proofs.operation.Operation.number.Goals as goal
+use Rattle.instruction_set.proofs.Numbers.{transfer_stands, arithmetic_stands, comparison_stands, word_logic_stands, shift_rotate_stands, branch_stands, timer_control_stands, counter_control_stands, block_control_stands, no_operation_stands}
+use Rattle.instruction_set.proofs.operation.Operation.number.Goals as goal
 
 pub returns-in-Transfer : goal.returns-in-Transfer
 returns-in-Transfer c = rw c.in-Transfer.is (transfer_stands c.in-Transfer.operation)

@@ -1,0 +1,13 @@
+//! The instruction set of Statement List: operations by groups, the operands that they take, and the table of both.
+#![tactic(auto)]
+
+mod operands;
+mod operation;
+mod table;
+
+pub use operands::{OperandArea, OperandKind};
+pub use operation::{
+    Arithmetic, BitLogic, BlockControl, Branch, Comparison, CounterControl, NoOperation, Operation,
+    ShiftRotate, TimerControl, Transfer, WordLogic,
+};
+pub use table::{InstructionRow, instruction_row, instruction_set};
