@@ -1,0 +1,10 @@
+use Rattle.std.proofs.Common.{◌≡◌, ◌++◌, length}
+use Rattle.std.specs.List.{flat_map}
+use Rattle.trace_reader.specs.Text.{note_line}
+use Rattle.trace_reader.proofs.reading.notes_from.Given as goal
+
+abbrev pub invariant-loop-turn : goal.invariant-loop-turn
+invariant-loop-turn l = record {
+  whole : l.text ≡ flat_map note_line l.notes.items ++ l.rest;
+  count : length l.notes.items ≡ l._turn;
+}

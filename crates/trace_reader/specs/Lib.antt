@@ -1,0 +1,5 @@
+pub mod Blocks
+pub mod Fields
+pub mod Images
+pub mod Refusal
+pub mod Text

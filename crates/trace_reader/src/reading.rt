@@ -1,0 +1,179 @@
+//! Reads a trace, section by section.
+ghost use Rattle.std.specs.Prelude.{◌≡◌, ◌++◌, ◌-◌, length, IfOk, IfErr, IfSome};
+ghost use Rattle.std.specs.List.{flat_map};
+ghost use Rattle.trace_reader.specs.Text.{entries_text, note_line, notes_and_after, tail_lines, last_line, text_of};
+ghost use Rattle.trace_reader.specs.Refusal.{line_number, IsLineOf};
+
+use crate::blocks::{blocks_from, counters_from};
+use crate::lines::{areas_at, count_at, cut_at, entry_at, last_at, note_at, title_at};
+use crate::trace::{Ending, Entry, Note, Tail, Trace};
+use std::alloc::{AllocError, Global};
+use thiserror::Error;
+
+/// Why a trace was not read.
+#[derive(Clone, Copy, Debug, PartialEq, Eq, Error)]
+pub enum TraceFault {
+    /// This line, counted from 1, has no form, or may not stand there.
+    #[error("trace fault line {line}")]
+    Line { line: usize },
+    /// Memory ran out.
+    #[error("no memory")]
+    NoMemory,
+}
+
+/// Where reading stopped: so many bytes before the end, or for want of memory.
+#[derive(Clone, Copy, Debug)]
+enum Stop {
+    Left(usize),
+    NoMemory,
+}
+
+/// Returns the entries, and the text after their lines.
+#[tactic(auto, using(crate::proofs::Sections::entries_more, std::proofs::Common::append_assoc))]
+fn entries_from(alloc: Global, text: &[u8]) -> Result<(Vec<Entry>, &[u8]), AllocError>
+    ensures written { IfOk result (λ p. text.now ≡ entries_text 0 p.0.items ++ p.1.now) }
+{
+    let mut entries = Vec::new(alloc);
+    let mut rest = text;
+    'entries: while let Some((entry, next)) = entry_at(rest, entries.len()) {
+        entries.push(entry)?;
+        rest = next;
+    }
+    Ok((entries, rest))
+}
+
+/// Returns this number of diagnostic entries, and the text after their lines.
+#[tactic(auto, using(crate::proofs::Sections::more_after, std::proofs::Common::append_assoc))]
+fn notes_from(alloc: Global, text: &[u8], count: u32) -> Result<(Vec<Note>, &[u8]), Stop>
+    ensures written { IfOk result (λ p. text.now ≡ flat_map note_line p.0.items ++ p.1.now) }
+    ensures count { IfOk result (λ p. length p.0.items ≡ count) }
+{
+    let mut notes = Vec::new(alloc);
+    let mut rest = text;
+    for _turn in 0..count {
+        let Some((note, next)) = note_at(rest) else {
+            return Err(Stop::Left(rest.len()));
+        };
+        if notes.push(note).is_err() {
+            return Err(Stop::NoMemory);
+        }
+        rest = next;
+    }
+    Ok((notes, rest))
+}
+
+/// Returns what stands after the diagnostic entries: the images, the data blocks and the counters.
+#[tactic(auto, using(std::proofs::Common::append_assoc))]
+fn tail_of(alloc: Global, notes: Vec<Note>, text: &[u8]) -> Result<(Tail, &[u8]), Stop>
+    ensures written { IfOk result (λ p. flat_map note_line notes.items ++ text.now ≡ notes_and_after p.0 ++ p.1.now) }
+    ensures count { IfOk result (λ p. p.0.notes ≡ notes) }
+{
+    let (areas, rest) = match areas_at(text) {
+        Ok(found) => found,
+        Err(left) => return Err(Stop::Left(left)),
+    };
+    let (blocks, rest) = match blocks_from(alloc, rest) {
+        Ok(found) => found,
+        Err(_) => return Err(Stop::NoMemory),
+    };
+    let (counters, rest) = match counters_from(alloc, rest) {
+        Ok(found) => found,
+        Err(_) => return Err(Stop::NoMemory),
+    };
+    let tail = Tail {
+        notes,
+        areas,
+        blocks,
+        counters,
+    };
+    Ok((tail, rest))
+}
+
+/// Returns the tail, where there is one, and the text after it.
+#[tactic(auto, using(std::proofs::Common::append_assoc))]
+fn tail_from(alloc: Global, text: &[u8]) -> Result<(Option<Tail>, &[u8]), Stop>
+    ensures written { IfOk result (λ p. text.now ≡ tail_lines p.0 ++ p.1.now) }
+{
+    let Some((count, rest)) = count_at(text) else {
+        return Ok((None, text));
+    };
+    let (notes, rest) = match notes_from(alloc, rest, count) {
+        Ok(found) => found,
+        Err(stop) => return Err(stop),
+    };
+    match tail_of(alloc, notes, rest) {
+        Ok((tail, rest)) => Ok((Some(tail), rest)),
+        Err(stop) => Err(stop),
+    }
+}
+
+/// Returns how a trace of so many entries ended, and the text after its last line.
+fn ending_from(text: &[u8], has_tail: bool, count: usize) -> Option<(Ending, &[u8])>
+    ensures written { IfSome result (λ p. text.now ≡ last_line p.0 count ++ p.1.now) }
+{
+    if has_tail {
+        last_at(text, count)
+    } else {
+        cut_at(text, count)
+    }
+}
+
+/// Reads a whole trace.
+#[tactic(auto, using(std::proofs::Common::append_assoc))]
+fn trace_from(alloc: Global, text: &[u8]) -> Result<Trace, Stop>
+    ensures written { IfOk result (λ trace. text_of trace ≡ text.now) }
+{
+    let Some((mode, rest)) = title_at(text) else {
+        return Err(Stop::Left(text.len()));
+    };
+    let (entries, rest) = match entries_from(alloc, rest) {
+        Ok(found) => found,
+        Err(_) => return Err(Stop::NoMemory),
+    };
+    let (tail, rest) = match tail_from(alloc, rest) {
+        Ok(found) => found,
+        Err(stop) => return Err(stop),
+    };
+    let Some((ending, after)) = ending_from(rest, tail.is_some(), entries.len()) else {
+        return Err(Stop::Left(rest.len()));
+    };
+    if !after.is_empty() {
+        return Err(Stop::Left(after.len()));
+    }
+    Ok(Trace {
+        mode,
+        entries,
+        tail,
+        ending,
+    })
+}
+
+/// Returns the number of the line in which the last `left` bytes of a text begin, counted from 1.
+fn line_of(text: &[u8], left: usize) -> usize
+    ensures { result ≡ line_number text.now (length text.now - left) }
+{
+    let front = &text[..text.len().saturating_sub(left)];
+    let mut number = 1;
+    for byte in front {
+        if *byte == b'\n' {
+            number += 1;
+        }
+    }
+    number
+}
+
+/// Reads the text of a trace, as docs/trace.md describes it. What it returns is written by the same bytes. The fault of a
+/// text that is no trace names its first line that has no form or may not stand there, counted from 1; where the text
+/// ends too early, that is the line after the last.
+pub fn read(alloc: Global, text: &[u8]) -> Result<Trace, TraceFault>
+    ensures written { IfOk result (λ trace. text_of trace ≡ text.now) }
+    ensures line { IfErr result (λ fault. IsLineOf text.now fault) }
+{
+    match trace_from(alloc, text) {
+        Ok(trace) => Ok(trace),
+        Err(Stop::Left(left)) => Err(TraceFault::Line {
+            line: line_of(text, left),
+        }),
+        Err(Stop::NoMemory) => Err(TraceFault::NoMemory),
+    }
+}
