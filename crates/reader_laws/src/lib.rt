@@ -1,0 +1,6 @@
+//! Laws of the reader: what it reads is spelled so, and what is spelled so is read.
+#![tactic(auto)]
+
+mod laws;
+
+pub use laws::operands_read_are_spelled;
