@@ -5,3 +5,4 @@ pub mod Numbers
 pub mod Words
 pub mod Locals
 pub mod Takes
+pub mod Statements

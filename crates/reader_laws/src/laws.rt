@@ -1,9 +1,17 @@
 //! What the reader reads, by how the language is spelled.
 ghost use Rattle.reader_laws.specs.Operands.{OperandsReadAreSpelled};
+ghost use Rattle.reader_laws.specs.Statements.{StatementsReadAreSpelled};
 
 /// What is read as an operand is spelled so, by the tables of the language: its word says its area and its unit, its
 /// numbers are its address or its value, and it has a form that the mnemonic takes.
 #[tactic(auto, using(crate::proofs::Takes::operand_takes))]
 pub fn operands_read_are_spelled()
     ensures { OperandsReadAreSpelled }
+{}
+
+/// What is read as a statement is spelled so: by the mnemonic of its operation, in one token or in two that stand
+/// directly side by side, by its operand or by none, and by `;`. Its operation allows the operand.
+#[tactic(auto, using(crate::proofs::Statements::statement_takes))]
+pub fn statements_read_are_spelled()
+    ensures { StatementsReadAreSpelled }
 {}
