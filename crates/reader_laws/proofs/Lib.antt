@@ -6,3 +6,4 @@ pub mod Words
 pub mod Locals
 pub mod Takes
 pub mod Statements
+pub mod Tables

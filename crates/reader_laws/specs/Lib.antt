@@ -1,3 +1,4 @@
 pub mod Tokens
 pub mod Operands
 pub mod Statements
+pub mod Tables

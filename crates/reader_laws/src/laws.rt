@@ -1,6 +1,7 @@
 //! What the reader reads, by how the language is spelled.
 ghost use Rattle.reader_laws.specs.Operands.{OperandsReadAreSpelled};
 ghost use Rattle.reader_laws.specs.Statements.{StatementsReadAreSpelled};
+ghost use Rattle.reader_laws.specs.Tables.{WordsSayTheirOperands};
 
 /// What is read as an operand is spelled so, by the tables of the language: its word says its area and its unit, its
 /// numbers are its address or its value, and it has a form that the mnemonic takes.
@@ -14,4 +15,11 @@ pub fn operands_read_are_spelled()
 #[tactic(auto, using(crate::proofs::Statements::statement_takes))]
 pub fn statements_read_are_spelled()
     ensures { StatementsReadAreSpelled }
+{}
+
+/// Each word of the table is spelled by its area and its unit, and no word stands twice: a word stands for one area and
+/// one unit.
+#[tactic(auto, using(crate::proofs::Tables::words_are_theirs))]
+pub fn words_say_their_operands()
+    ensures { WordsSayTheirOperands }
 {}

@@ -3,4 +3,4 @@
 
 mod laws;
 
-pub use laws::{operands_read_are_spelled, statements_read_are_spelled};
+pub use laws::{operands_read_are_spelled, statements_read_are_spelled, words_say_their_operands};
