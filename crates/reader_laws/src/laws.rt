@@ -1,7 +1,7 @@
 //! What the reader reads, by how the language is spelled.
 ghost use Rattle.reader_laws.specs.Operands.{OperandsReadAreSpelled};
 ghost use Rattle.reader_laws.specs.Statements.{StatementsReadAreSpelled};
-ghost use Rattle.reader_laws.specs.Tables.{WordsSayTheirOperands};
+ghost use Rattle.reader_laws.specs.Tables.{WordsSayTheirOperands, OneOperationForAnOperand};
 
 /// What is read as an operand is spelled so, by the tables of the language: its word says its area and its unit, its
 /// numbers are its address or its value, and it has a form that the mnemonic takes.
@@ -22,4 +22,10 @@ pub fn statements_read_are_spelled()
 #[tactic(auto, using(crate::proofs::Tables::words_are_theirs))]
 pub fn words_say_their_operands()
     ensures { WordsSayTheirOperands }
+{}
+
+/// Rows of the instruction set with one mnemonic have no operand in common: a mnemonic with an operand names one
+/// operation.
+pub fn one_operation_for_an_operand()
+    ensures { OneOperationForAnOperand }
 {}
