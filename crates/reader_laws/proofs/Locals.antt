@@ -1,21 +1,18 @@
 -- What is read as a local name is spelled so.
-use Rattle.std.proofs.Common.{◌≡◌, ◌≤◌, ◌<◌, ◌+◌, ◌-◌, ◌*◌, ℕ, zero, suc, List, [], ◌∷◌, ◌++◌, refl, subst, ap, sym, ◌∙◌, Bool, true, false, cond, arith, append_assoc}
-use Rattle.std.specs.Prelude.{Result, Ok, Err, Option, Some, None, ◌||◌, not, nat_lt, nat_le, codes, min, ◌/◌, drop}
+use Rattle.std.proofs.Common.{◌≡◌, ◌≤◌, ◌<◌, ◌-◌, ℕ, zero, suc, List, [], ◌∷◌, ◌++◌, refl, subst, ap, sym, ◌∙◌, Bool, true, false, cond, arith, append_assoc}
+use Rattle.std.specs.Prelude.{Ok, Option, Some, None, ◌||◌, not, nat_lt, nat_le, codes, drop}
 use Rattle.std.proofs.lemmas.Bool.{ltb-false, leb-false}
-use Rattle.s7_base.specs.declared.operands.OperandArea.TheVariants as areas
 use Rattle.stl_lex.specs.declared.piece.TokenKind.TheVariants as kinds
 use Rattle.stl_lex.specs.declared.token.Token.{Token}
-use Rattle.stl_decl.specs.declared.fault.Fault.{Fault}
 use Rattle.stl_decl.specs.declared.fault.FaultKind.TheVariants.{BadOperand}
 use Rattle.stl_decl.specs.declared.steps.SignedNumber.{SignedNumber}
-use Rattle.stl_decl.specs.declared.types.Shape.{Shape}
 use Rattle.stl_decl.specs.declared.types.SimpleType.{SimpleType}
 use Rattle.stl_decl.specs.declared.types.SimpleType.TheVariants as types
 use Rattle.stl_decl.specs.Places.{Place}
-use Rattle.stl_decl.specs.Types.{bits_of, rank, is_int, int_value, element_bit}
+use Rattle.stl_decl.specs.Types.{rank, is_int, int_value, element_bit}
 use Rattle.stl_decl.specs.Layout.{Section, variable_of}
 use Rattle.stl_decl.specs.Steps.{◌>>=◌, spelling, upper, fault_at, is_sign, integer_at, sign_at, maybe_sign_at}
-use Rattle.stl_decl.specs.Elements.{element_above, index_of, indexed_at, single_at, element_by, element_at}
+use Rattle.stl_decl.specs.Elements.{element_above, index_of, indexed_at, single_at, element_by}
 use Rattle.stl_reader.specs.declared.forms.OperandForm.{OperandForm}
 use Rattle.stl_reader.specs.declared.forms.OperandForm.TheVariants as forms
 use Rattle.stl_reader.specs.declared.addresses.Operand.{Operand}
@@ -24,8 +21,8 @@ use Rattle.stl_reader.specs.Operands.{takes_memory}
 use Rattle.stl_reader.specs.Locals.{local_form, local_at, suits_mnemonic, element_operand, variable_operand, named_local, local_operand}
 use Rattle.stl_reader.proofs.Language.{bind_ok}
 use Rattle.reader_laws.specs.Tokens.{IsSign}
-use Rattle.reader_laws.specs.Operands.{IsInteger, is_in_range, below, IsUnit, byte, char, word, int, s5time, date, dword, dint, time, time_of_day, IsLocal, of_bit, of_bytes, IsName, IsElement, IsOperand, by_name, by_element, last_of, IsReadAs}
-use Rattle.reader_laws.proofs.Steps.{if_ok, if_not, same_ok, TakesToken, closing_takes, TakesInteger, integer_takes}
+use Rattle.reader_laws.specs.Operands.{is_in_range, below, byte, char, word, int, s5time, date, dword, dint, time, time_of_day, IsLocal, of_bit, of_bytes, IsName, IsElement, by_name, by_element, last_of, IsReadAs}
+use Rattle.reader_laws.proofs.Steps.{if_ok, if_not, same_ok, closing_takes, integer_takes}
 
 -- a name of the type in a form that the mnemonic takes
 record Suits (mnemonic : List ℕ) (simple : SimpleType) (at : ℕ) : Type 0 where
@@ -94,9 +91,9 @@ module _ (text : List ℕ) (temps : Section) (mnemonic : List ℕ) (first : Toke
       let h = suits mnemonic place.shape.simple place.first_bit fits in
       let at : element_bit place 0 ≡ place.first_bit = omega arith in
       let same : (local_at place.shape.simple place.first_bit, first, rest) ≡ x =
-          ap (λ (b : ℕ). let y : Operand × Token × List Token = (local_at place.shape.simple b, first, rest) in y) (sym at)
-          ∙ (ap (λ (v : ℕ × Token × List Token). let y : Operand × Token × List Token = (local_at place.shape.simple (element_bit place v.0), v.1, v.2) in y) here
-          ∙ same_ok (local_at place.shape.simple (element_bit place s.0.0), s.0.1, s.0.2) x s.2) in
+      ap (λ (b : ℕ). let y : Operand × Token × List Token = (local_at place.shape.simple b, first, rest) in y) (sym at)
+      ∙ (ap (λ (v : ℕ × Token × List Token). let y : Operand × Token × List Token = (local_at place.shape.simple (element_bit place v.0), v.1, v.2) in y) here
+      ∙ same_ok (local_at place.shape.simple (element_bit place s.0.0), s.0.1, s.0.2) x s.2) in
       subst (IsReadAs text temps mnemonic (first ∷ rest)) same (record {
         form = h.form;
         front = first ∷ [];
@@ -122,8 +119,8 @@ module _ (text : List ℕ) (temps : Section) (mnemonic : List ℕ) (first : Toke
       let here = same_ok (k.0, closing.0.0, closing.0.1) s.0 closing.2 in
       let h = suits mnemonic place.shape.simple (element_bit place k.0) fits in
       let same : (local_at place.shape.simple (element_bit place k.0), closing.0.0, closing.0.1) ≡ x =
-          ap (λ (v : ℕ × Token × List Token). let y : Operand × Token × List Token = (local_at place.shape.simple (element_bit place v.0), v.1, v.2) in y) here
-          ∙ same_ok (local_at place.shape.simple (element_bit place s.0.0), s.0.1, s.0.2) x s.2 in
+      ap (λ (v : ℕ × Token × List Token). let y : Operand × Token × List Token = (local_at place.shape.simple (element_bit place v.0), v.1, v.2) in y) here
+      ∙ same_ok (local_at place.shape.simple (element_bit place s.0.0), s.0.1, s.0.2) x s.2 in
       subst (IsReadAs text temps mnemonic (first ∷ rest)) same (record {
         form = h.form;
         front = first ∷ opening ∷ (i.front ++ closing.0.0 ∷ []);

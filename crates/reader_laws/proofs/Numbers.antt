@@ -1,6 +1,6 @@
 -- What is read as a number is spelled so.
-use Rattle.std.proofs.Common.{◌≡◌, ℕ, List, [], ◌∷◌, ◌++◌, refl, subst, ap, sym, ◌∙◌, Bool, true, false, cond}
-use Rattle.std.specs.Prelude.{Result, Ok, Err, codes, ◌&&◌}
+use Rattle.std.proofs.Common.{◌≡◌, ℕ, List, ◌∷◌, ◌++◌, refl, subst, ap, ◌∙◌, Bool, true, false, cond}
+use Rattle.std.specs.Prelude.{Result, Ok, codes}
 use Rattle.std.specs.Str.{bytes_eq}
 use Rattle.std.proofs.lemmas.Bool.{and_parts}
 use Rattle.s7_base.specs.declared.operands.OperandArea.TheVariants.{Word}
@@ -10,7 +10,7 @@ use Rattle.stl_lex.specs.declared.token.Token.{Token}
 use Rattle.stl_decl.specs.declared.fault.Fault.{Fault}
 use Rattle.stl_decl.specs.declared.fault.FaultKind.TheVariants.{BadOperand}
 use Rattle.stl_decl.specs.declared.constants.Value.{Value}
-use Rattle.stl_decl.specs.Steps.{◌>>=◌, spelling, is_number_kind, is_sign_kind, is_sign, integer_at, fault_at}
+use Rattle.stl_decl.specs.Steps.{spelling, is_number_kind, is_sign_kind, integer_at, fault_at}
 use Rattle.stl_decl.specs.Types.{is_int}
 use Rattle.stl_decl.specs.Constants.{stored, begins_integer, integer_constant, integer_value, integer_value_at, value_at, single_value, constant_of}
 use Rattle.stl_reader.specs.declared.forms.OperandForm.TheVariants as forms

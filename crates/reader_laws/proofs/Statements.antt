@@ -1,7 +1,6 @@
 -- What is read as a statement is spelled so.
-use Rattle.std.proofs.Common.{◌≡◌, ℕ, List, [], ◌∷◌, ◌++◌, refl, subst, ap, sym, ◌∙◌, Bool, true, false, cond, get_or, append_assoc, append-nil}
-use Rattle.std.specs.Prelude.{Result, Ok, Err, Option, Some, None, ◌&&◌, ◌==◌, slice_get, codes}
-use Rattle.std.specs.List.{find, position}
+use Rattle.std.proofs.Common.{◌≡◌, ℕ, List, [], ◌∷◌, ◌++◌, refl, subst, ap, sym, ◌∙◌, Bool, true, false, cond, get_or, append_assoc}
+use Rattle.std.specs.Prelude.{Ok, Option, Some, None, ◌&&◌, ◌==◌, slice_get, codes}
 use Rattle.std.specs.Str.{bytes_eq}
 use Rattle.std.proofs.lemmas.Bool.{and_parts}
 use Rattle.std.proofs.lemmas.Slice.Eq.{bytes_eq-Decides}
@@ -16,20 +15,19 @@ use Rattle.s7_base.specs.InstructionSet.{instruction_set}
 use Rattle.s7_base.specs.Operands.{allows}
 use Rattle.stl_lex.specs.Bytes.{spells, letters_of}
 use Rattle.stl_lex.specs.declared.token.Token.{Token}
-use Rattle.stl_decl.specs.declared.fault.Fault.{Fault}
 use Rattle.stl_decl.specs.declared.fault.FaultKind.TheVariants.{MissingSemicolon, OutOfScope}
 use Rattle.stl_decl.specs.Layout.{Section}
-use Rattle.stl_decl.specs.Steps.{◌>>=◌, spelling, fault_at, is_sign, semicolon_at}
+use Rattle.stl_decl.specs.Steps.{spelling, fault_at, is_sign, semicolon_at}
 use Rattle.stl_reader.specs.declared.mnemonics.RefusedInstruction.{RefusedInstruction}
 use Rattle.stl_reader.specs.declared.mnemonics.Meaning.{Meaning}
 use Rattle.stl_reader.specs.declared.mnemonics.Meaning.TheVariants.{Mnemonic, Refused}
 use Rattle.stl_reader.specs.declared.addresses.Operand.{Operand}
 use Rattle.stl_reader.specs.Addresses.{call}
-use Rattle.stl_reader.specs.Mnemonics.{row_named, refused_named, refusal_by, meaning_by, meaning_of, with_rest, pair_at, one_at, longer_of, run_at, meant, mnemonic_by, mnemonic_at}
+use Rattle.stl_reader.specs.Mnemonics.{row_named, refused_named, meaning_by, meaning_of, with_rest, one_at, longer_of, run_at, mnemonic_by, mnemonic_at}
 use Rattle.stl_reader.specs.Statements.{operand_at, wants_operand, no_operand, argument_at, stored, operation_of, operation_by, operation_at, first_of, closing_at, target_of, statement_at}
 use Rattle.stl_reader.proofs.Language.{bind_ok, operation_allows}
 use Rattle.reader_laws.specs.Tokens.{IsSign}
-use Rattle.reader_laws.specs.Statements.{IsMnemonic, in_one, in_two, IsArgument, of_operand, of_nothing, IsStatement, of_row, IsStatementRead}
+use Rattle.reader_laws.specs.Statements.{IsMnemonic, in_one, in_two, IsArgument, of_operand, of_nothing, of_row, IsStatementRead}
 use Rattle.reader_laws.proofs.Steps.{if_ok, if_not, same_ok}
 use Rattle.reader_laws.proofs.Rows.{found}
 use Rattle.reader_laws.proofs.Takes.{operand_takes}

@@ -1,10 +1,10 @@
 -- What the steps of reading took from the tokens.
-use Rattle.std.proofs.Common.{◌≡◌, ℕ, List, [], ◌∷◌, ◌++◌, refl, subst, ap, sym, ◌∙◌, Bool, true, false, cond}
+use Rattle.std.proofs.Common.{◌≡◌, ℕ, List, [], ◌∷◌, ◌++◌, refl, subst, ap, ◌∙◌, Bool, true, false, cond}
 use Rattle.std.specs.Prelude.{Result, Ok, Err, min, codes}
 use Rattle.stl_lex.specs.declared.token.Token.{Token}
 use Rattle.stl_decl.specs.declared.fault.Fault.{Fault}
 use Rattle.stl_decl.specs.declared.steps.SignedNumber.{SignedNumber}
-use Rattle.stl_decl.specs.Steps.{◌>>=◌, is_number_kind, is_word, is_sign, number_of, unfit, fault_at, sign_at, number_at, signed_at, integer_at}
+use Rattle.stl_decl.specs.Steps.{is_number_kind, is_word, is_sign, number_of, unfit, fault_at, sign_at, number_at, signed_at, integer_at}
 use Rattle.stl_decl.specs.declared.fault.FaultKind.TheVariants.{OutOfScope}
 use Rattle.stl_reader.specs.Addresses.{refused, part_number, part_sign, part_word, address}
 use Rattle.stl_reader.proofs.Language.{bind_ok}
@@ -86,7 +86,7 @@ module _ (text : List ℕ) where
       let p = if_ok (is_number_kind t.kind) (Ok (number_of text t, t, ts)) (unfit text t) n.0 n.1 in
       let number : (number_of text t, t, ts) ≡ n.0 = same_ok (number_of text t, t, ts) n.0 p.1 in
       let here : (record { negative = minus; magnitude = number_of text t; first = first; last = t }, ts) ≡ x =
-          ap (λ (m : ℕ × Token × List Token). let y : SignedNumber × List Token = (record { negative = minus; magnitude = m.0; first = first; last = m.1 }, m.2) in y) number ∙ same_ok (record { negative = minus; magnitude = n.0.0; first = first; last = n.0.1 }, n.0.2) x n.2 in
+      ap (λ (m : ℕ × Token × List Token). let y : SignedNumber × List Token = (record { negative = minus; magnitude = m.0; first = first; last = m.1 }, m.2) in y) number ∙ same_ok (record { negative = minus; magnitude = n.0.0; first = first; last = n.0.1 }, n.0.2) x n.2 in
       subst (TakesSigned text minus first (t ∷ ts)) here (record { digits = t; cut = refl; kind = p.0; same = refl })
 
   with_sign : (minus : Bool) (s : Token) (ts : List Token) (x : SignedNumber × List Token) → ((t : Token) → is_number_kind t.kind ≡ true → IsInteger text minus (number_of text t) (s ∷ t ∷ [])) → signed_at text minus s ts ≡ Ok x → TakesInteger text (s ∷ ts) x

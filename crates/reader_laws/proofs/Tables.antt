@@ -1,5 +1,5 @@
 -- The laws of the tables.
-use Rattle.std.proofs.Common.{◌≡◌, ℕ, List, [], ◌∷◌, refl, subst, ap, sym, ◌∙◌, Bool, true, false, cond, ◌&&◌, ◌||◌, ◌⊎◌, inl, inr, ◌==◌}
+use Rattle.std.proofs.Common.{◌≡◌, ℕ, List, [], ◌∷◌, refl, subst, ap, sym, ◌∙◌, Bool, true, false, ◌&&◌, ◌||◌, ◌⊎◌, inl, inr, ◌==◌}
 use Rattle.std.specs.Prelude.{not, nat_le, Option, Some, None}
 use Rattle.std.specs.List.{list_all}
 use Rattle.std.specs.Str.{bytes_eq}
@@ -88,7 +88,7 @@ module _ (locals : ℕ) (s : Statement) where
   area_is kinds.InstanceBlock area e h = let same : 6 ≡ area = cc in number_area areas.Instance (and_parts (is_number areas.Instance s) (is_data_number s.value) h).0 ∙ same
   area_is kinds.Function area e h = let same : 16 ≡ area = cc in number_area areas.Function (and_parts (is_number areas.Function s) (nat_le s.value 255) h).0 ∙ same
   area_is kinds.FunctionBlock area e h = let same : 17 ≡ area = cc in number_area areas.FunctionBlock (and_parts (is_number areas.FunctionBlock s) (nat_le s.value 255) h).0 ∙ same
-  area_is kinds.FunctionBlockWithData area e h = 
+  area_is kinds.FunctionBlockWithData area e h =
       let same : 17 ≡ area = cc in
       let one = and_parts (is_in areas.FunctionBlock s && s.bit == 0 && nat_le s.value 255) (is_data_number s.db) h in
       let two = and_parts (is_in areas.FunctionBlock s && s.bit == 0) (nat_le s.value 255) one.0 in
@@ -123,14 +123,14 @@ module _ (locals : ℕ) (s : Statement) where
   disjoint : (k l : OperandKind) → kinds_apart k l ≡ true → allows k locals s ≡ true → allows l locals s ≡ true → ⊥
   unfolding kinds_apart
   disjoint k l e x y = elim (either_true (differ (area_of_kind k) (area_of_kind l)) (special k l) e) [
-    inl h ↦ by_area k l (area_of_kind k) (area_of_kind l) refl refl h x y
+    | inl h ↦ by_area k l (area_of_kind k) (area_of_kind l) refl refl h x y
     | inr h ↦ by_special k l h x y
   ]
 
   rows_disjoint : (a b : InstructionRow) → row_apart a b ≡ true → a.mnemonic ≡ b.mnemonic → allows a.operand locals s ≡ true → allows b.operand locals s ≡ true → ⊥
   unfolding row_apart
   rows_disjoint a b e same x y = elim (either_true (not (bytes_eq b.mnemonic a.mnemonic)) (kinds_apart a.operand b.operand) e) [
-    inl h ↦ not_true (bytes_eq b.mnemonic a.mnemonic) ((bytes_eq-Decides b.mnemonic a.mnemonic).1 (sym same)) h
+    | inl h ↦ not_true (bytes_eq b.mnemonic a.mnemonic) ((bytes_eq-Decides b.mnemonic a.mnemonic).1 (sym same)) h
     | inr h ↦ disjoint a.operand b.operand h x y
   ]
 

@@ -1,6 +1,6 @@
 -- What is read as an operand is spelled so.
-use Rattle.std.proofs.Common.{◌≡◌, ℕ, List, [], ◌∷◌, ◌++◌, refl, subst, ap, sym, ◌∙◌, Bool, true, false, cond, ◌⊎◌, inl, inr}
-use Rattle.std.specs.Prelude.{Result, Ok, Err, Option, Some, None, ◌&&◌, ◌||◌, codes}
+use Rattle.std.proofs.Common.{◌≡◌, ℕ, List, [], ◌∷◌, refl, subst, ap, sym, ◌∙◌, Bool, true, false, ◌⊎◌, inl, inr}
+use Rattle.std.specs.Prelude.{Ok, Option, Some, None, ◌&&◌, ◌||◌, codes}
 use Rattle.std.specs.Str.{bytes_eq}
 use Rattle.std.proofs.lemmas.Bool.{and_parts}
 use Rattle.std.proofs.lemmas.Slice.Eq.{bytes_eq-Decides}
@@ -9,7 +9,6 @@ use Rattle.stl_lex.specs.Bytes.{letters_of}
 use Rattle.stl_lex.specs.declared.piece.TokenKind.{TokenKind}
 use Rattle.stl_lex.specs.declared.piece.TokenKind.TheVariants as kinds
 use Rattle.stl_lex.specs.declared.token.Token.{Token}
-use Rattle.stl_decl.specs.declared.fault.Fault.{Fault}
 use Rattle.stl_decl.specs.declared.fault.FaultKind.TheVariants.{RealInstruction}
 use Rattle.stl_decl.specs.declared.constants.Constant.{Constant}
 use Rattle.stl_decl.specs.Layout.{Section}
@@ -23,7 +22,7 @@ use Rattle.stl_reader.specs.Forms.{accepts}
 use Rattle.stl_reader.specs.Words.{status_sign}
 use Rattle.stl_reader.specs.Addresses.{refused, taken}
 use Rattle.stl_reader.specs.Constants.{is_plus_or_minus, is_real, form_of, constant_operand, number_operand, unsigned_operand, single_operand, is_zero, zero_at, status_operand, signed_operand, sign_by}
-use Rattle.stl_reader.specs.Statements.{fixed_operand, kind_operand, operand_at}
+use Rattle.stl_reader.specs.Statements.{kind_operand, operand_at}
 use Rattle.stl_reader.proofs.Language.{bind_ok}
 use Rattle.reader_laws.specs.Tokens.{IsSign}
 use Rattle.reader_laws.specs.Operands.{number_form, operand, IsOperand, by_sign, by_number, by_literal, IsReadAs}
@@ -96,7 +95,7 @@ module _ (text : List ℕ) (temps : Section) (mnemonic : List ℕ) (first : Toke
       let f = sign_found (spelling text first) row is in
       let letters : letters_of row.sign ≡ spelling text first = (bytes_eq-Decides (letters_of row.sign) (spelling text first)).0 f.1 in
       let sign : IsSign text (letters_of row.sign) first =
-          ap (λ b. b && bytes_eq (spelling text first) (letters_of row.sign)) (ap is_sign_kind kind) ∙ (bytes_eq-Decides (spelling text first) (letters_of row.sign)).1 (sym letters) in
+      ap (λ b. b && bytes_eq (spelling text first) (letters_of row.sign)) (ap is_sign_kind kind) ∙ (bytes_eq-Decides (spelling text first) (letters_of row.sign)).1 (sym letters) in
       subst (IsReadAs text temps mnemonic (first ∷ rest)) here (record {
         form = forms.Status;
         front = first ∷ t ∷ [];

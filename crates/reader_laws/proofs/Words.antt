@@ -1,12 +1,11 @@
 -- What is read as an operand that begins with a word is spelled so.
-use Rattle.std.proofs.Common.{◌≡◌, ℕ, List, [], ◌∷◌, ◌++◌, refl, subst, ap, sym, ◌∙◌, Bool, true, false, cond, ◌⊎◌, inl, inr}
-use Rattle.std.specs.Prelude.{Result, Ok, Err, Option, Some, None, ◌&&◌, ◌==◌, not, codes}
+use Rattle.std.proofs.Common.{◌≡◌, ℕ, List, [], ◌∷◌, refl, subst, ap, sym, ◌∙◌, Bool, true, false, cond, ◌⊎◌, inl, inr}
+use Rattle.std.specs.Prelude.{Ok, Option, Some, None, ◌&&◌, ◌==◌, not, codes}
 use Rattle.std.proofs.lemmas.Bool.{and_parts, eqb-true}
 use Rattle.s7_base.specs.declared.operands.OperandArea.{OperandArea}
 use Rattle.s7_base.specs.declared.operands.OperandArea.TheVariants as areas
 use Rattle.s7_base.specs.Operands.{is_data_number}
 use Rattle.stl_lex.specs.declared.token.Token.{Token}
-use Rattle.stl_decl.specs.declared.fault.Fault.{Fault}
 use Rattle.stl_decl.specs.declared.fault.FaultKind.TheVariants.{BadOperand, OutOfScope}
 use Rattle.stl_decl.specs.Layout.{Section}
 use Rattle.stl_decl.specs.Steps.{◌>>=◌, spelling, fault_at, is_word_kind}

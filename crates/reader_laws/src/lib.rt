@@ -3,4 +3,7 @@
 
 mod laws;
 
-pub use laws::{one_operation_for_an_operand, operands_read_are_spelled, statements_read_are_spelled, words_say_their_operands};
+pub use laws::{
+    one_operation_for_an_operand, operands_read_are_spelled, statements_read_are_spelled,
+    words_say_their_operands,
+};
