@@ -7,3 +7,4 @@ pub mod Locals
 pub mod Takes
 pub mod Statements
 pub mod Tables
+pub mod Again

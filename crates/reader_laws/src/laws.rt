@@ -1,6 +1,7 @@
 //! What the reader reads, by how the language is spelled.
 ghost use Rattle.reader_laws.specs.Operands.{OperandsReadAreSpelled};
 ghost use Rattle.reader_laws.specs.Statements.{StatementsReadAreSpelled};
+ghost use Rattle.reader_laws.specs.Spelled.{WordsSpelledAreFound, AddressesSpelledAreRead};
 ghost use Rattle.reader_laws.specs.Tables.{WordsSayTheirOperands, OneOperationForAnOperand};
 
 /// What is read as an operand is spelled so, by the tables of the language: its word says its area and its unit, its
@@ -28,4 +29,16 @@ pub fn words_say_their_operands()
 /// operation.
 pub fn one_operation_for_an_operand()
     ensures { OneOperationForAnOperand }
+{}
+
+/// A word of the table, in large or small letters, is found as its row, and as no other.
+#[tactic(auto, using(crate::proofs::Again::word_again))]
+pub fn words_spelled_are_found()
+    ensures { WordsSpelledAreFound }
+{}
+
+/// What is spelled as a word of the table and its address is read as that operand and as no other, whatever follows
+/// it.
+pub fn addresses_spelled_are_read()
+    ensures { AddressesSpelledAreRead }
 {}

@@ -4,6 +4,6 @@
 mod laws;
 
 pub use laws::{
-    one_operation_for_an_operand, operands_read_are_spelled, statements_read_are_spelled,
-    words_say_their_operands,
+    addresses_spelled_are_read, one_operation_for_an_operand, operands_read_are_spelled,
+    statements_read_are_spelled, words_say_their_operands, words_spelled_are_found,
 };
