@@ -1,0 +1,10 @@
+pub mod Steps
+pub mod Rows
+pub mod Addresses
+pub mod Numbers
+pub mod Words
+pub mod Locals
+pub mod Takes
+pub mod Statements
+pub mod Tables
+pub mod Again

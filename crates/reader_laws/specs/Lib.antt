@@ -1,0 +1,5 @@
+pub mod Tokens
+pub mod Operands
+pub mod Statements
+pub mod Tables
+pub mod Spelled

@@ -1,0 +1,44 @@
+//! What the reader reads, by how the language is spelled.
+ghost use Rattle.reader_laws.specs.Operands.{OperandsReadAreSpelled};
+ghost use Rattle.reader_laws.specs.Statements.{StatementsReadAreSpelled};
+ghost use Rattle.reader_laws.specs.Spelled.{WordsSpelledAreFound, AddressesSpelledAreRead};
+ghost use Rattle.reader_laws.specs.Tables.{WordsSayTheirOperands, OneOperationForAnOperand};
+
+/// What is read as an operand is spelled so, by the tables of the language: its word says its area and its unit, its
+/// numbers are its address or its value, and it has a form that the mnemonic takes.
+#[tactic(auto, using(crate::proofs::Takes::operand_takes))]
+pub fn operands_read_are_spelled()
+    ensures { OperandsReadAreSpelled }
+{}
+
+/// What is read as a statement is spelled so: by the mnemonic of its operation, in one token or in two that stand
+/// directly side by side, by its operand or by none, and by `;`. Its operation allows the operand.
+#[tactic(auto, using(crate::proofs::Statements::statement_takes))]
+pub fn statements_read_are_spelled()
+    ensures { StatementsReadAreSpelled }
+{}
+
+/// Each word of the table is spelled by its area and its unit, and no word stands twice: a word stands for one area and
+/// one unit.
+#[tactic(auto, using(crate::proofs::Tables::words_are_theirs))]
+pub fn words_say_their_operands()
+    ensures { WordsSayTheirOperands }
+{}
+
+/// Rows of the instruction set with one mnemonic have no operand in common: a mnemonic with an operand names one
+/// operation.
+pub fn one_operation_for_an_operand()
+    ensures { OneOperationForAnOperand }
+{}
+
+/// A word of the table, in large or small letters, is found as its row, and as no other.
+#[tactic(auto, using(crate::proofs::Again::word_again))]
+pub fn words_spelled_are_found()
+    ensures { WordsSpelledAreFound }
+{}
+
+/// What is spelled as a word of the table and its address is read as that operand and as no other, whatever follows
+/// it.
+pub fn addresses_spelled_are_read()
+    ensures { AddressesSpelledAreRead }
+{}

@@ -1,0 +1,9 @@
+//! Laws of the reader: what it reads is spelled so, and what is spelled so is read.
+#![tactic(auto)]
+
+mod laws;
+
+pub use laws::{
+    addresses_spelled_are_read, one_operation_for_an_operand, operands_read_are_spelled,
+    statements_read_are_spelled, words_say_their_operands, words_spelled_are_found,
+};
