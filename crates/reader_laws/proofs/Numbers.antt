@@ -3,7 +3,7 @@ use Rattle.std.proofs.Common.{◌≡◌, ℕ, List, ◌∷◌, ◌++◌, refl, s
 use Rattle.std.specs.Prelude.{Result, Ok, codes}
 use Rattle.std.specs.Str.{bytes_eq}
 use Rattle.std.proofs.lemmas.Bool.{and_parts}
-use Rattle.s7_base.specs.declared.operands.OperandArea.TheVariants.{Word}
+use Rattle.instruction_set.specs.declared.operands.OperandArea.TheVariants.{Word}
 use Rattle.stl_lex.specs.declared.piece.TokenKind.{TokenKind}
 use Rattle.stl_lex.specs.declared.piece.TokenKind.TheVariants as kinds
 use Rattle.stl_lex.specs.declared.token.Token.{Token}

@@ -6,12 +6,12 @@ use Rattle.std.proofs.lemmas.Bool.{and_parts}
 use Rattle.std.proofs.lemmas.Slice.Eq.{bytes_eq-Decides}
 use Rattle.std.proofs.lemmas.Option.{slice_get-get_or}
 use Rattle.std.proofs.lemmas.List.Quantifiers.{position-Some}
-use Rattle.s7_base.specs.declared.operands.OperandKind.TheVariants as operand_kinds
-use Rattle.s7_base.specs.declared.operation.Operation.TheVariants as groups
-use Rattle.s7_base.specs.declared.operation.BitLogic.TheVariants as logic
-use Rattle.s7_base.specs.declared.table.InstructionRow.{InstructionRow}
+use Rattle.instruction_set.specs.declared.operands.OperandKind.TheVariants as operand_kinds
+use Rattle.instruction_set.specs.declared.operation.Operation.TheVariants as groups
+use Rattle.instruction_set.specs.declared.operation.BitLogic.TheVariants as logic
+use Rattle.instruction_set.specs.declared.table.InstructionRow.{InstructionRow}
 use Rattle.s7_base.specs.declared.statement.Statement.{Statement}
-use Rattle.s7_base.specs.InstructionSet.{instruction_set}
+use Rattle.instruction_set.specs.InstructionSet.{instruction_set}
 use Rattle.s7_base.specs.Operands.{allows}
 use Rattle.stl_lex.specs.Bytes.{spells, letters_of}
 use Rattle.stl_lex.specs.declared.token.Token.{Token}

@@ -5,14 +5,15 @@ use Rattle.std.specs.List.{list_all}
 use Rattle.std.specs.Str.{bytes_eq}
 use Rattle.std.proofs.lemmas.Bool.{and_parts, eqb-true, eq-eqb}
 use Rattle.std.proofs.lemmas.Slice.Eq.{bytes_eq-Decides}
-use Rattle.s7_base.specs.declared.operands.OperandArea.{OperandArea}
-use Rattle.s7_base.specs.declared.operands.OperandArea.TheVariants as areas
-use Rattle.s7_base.specs.declared.operands.OperandKind.{OperandKind}
-use Rattle.s7_base.specs.declared.operands.OperandKind.TheVariants as kinds
+use Rattle.instruction_set.specs.declared.operands.OperandArea.{OperandArea}
+use Rattle.instruction_set.specs.declared.operands.OperandArea.TheVariants as areas
+use Rattle.instruction_set.specs.declared.operands.OperandKind.{OperandKind}
+use Rattle.instruction_set.specs.declared.operands.OperandKind.TheVariants as kinds
 use Rattle.s7_base.specs.declared.statement.Statement.{Statement}
-use Rattle.s7_base.specs.declared.table.InstructionRow.{InstructionRow}
-use Rattle.s7_base.specs.InstructionSet.{instruction_set}
-use Rattle.s7_base.specs.Operands.{allows, area_number, is_data_number, is_in, is_number, is_exactly}
+use Rattle.instruction_set.specs.declared.table.InstructionRow.{InstructionRow}
+use Rattle.instruction_set.specs.InstructionSet.{instruction_set}
+use Rattle.instruction_set.specs.Areas.{area_number}
+use Rattle.s7_base.specs.Operands.{allows, is_data_number, is_in, is_number, is_exactly}
 use Rattle.reader_laws.specs.Tokens.{IsOneOf}
 use Rattle.reader_laws.specs.Tables.{WordsSayTheirOperands}
 use Rattle.reader_laws.proofs.Rows.{each}

@@ -1,7 +1,7 @@
 -- How operands are spelled: a relation between an operand as it is stored and the tokens that stand for it.
 use Rattle.std.specs.Prelude.{◌≡◌, ℕ, List, [], ◌∷◌, ◌+◌, ◌*◌, ◌/◌, ◌%◌, ◌-◌, ◌<◌, ◌++◌, ◌⊎◌, drop, min, nat_le, Bool, true, false, Some, Ok, codes, if◌then◌else◌}
-use Rattle.s7_base.specs.declared.operands.OperandArea.{OperandArea}
-use Rattle.s7_base.specs.declared.operands.OperandArea.TheVariants as areas
+use Rattle.instruction_set.specs.declared.operands.OperandArea.{OperandArea}
+use Rattle.instruction_set.specs.declared.operands.OperandArea.TheVariants as areas
 use Rattle.s7_base.specs.Operands.{is_data_number}
 use Rattle.stl_lex.specs.Bytes.{letters_of}
 use Rattle.stl_lex.specs.declared.piece.TokenKind.TheVariants as kinds

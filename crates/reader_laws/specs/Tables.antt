@@ -3,11 +3,11 @@
 use Rattle.std.specs.Prelude.{◌≡◌, ℕ, List, [], ◌∷◌, ◌++◌, ◌==◌, ◌&&◌, ◌||◌, not, map, Bool, true, false, if◌then◌else◌, codes}
 use Rattle.std.specs.List.{list_all, list_any}
 use Rattle.std.specs.Str.{bytes_eq}
-use Rattle.s7_base.specs.declared.operands.OperandArea.{OperandArea}
-use Rattle.s7_base.specs.declared.operands.OperandArea.TheVariants as areas
+use Rattle.instruction_set.specs.declared.operands.OperandArea.{OperandArea}
+use Rattle.instruction_set.specs.declared.operands.OperandArea.TheVariants as areas
 use Rattle.s7_base.specs.declared.statement.Statement.{Statement}
-use Rattle.s7_base.specs.declared.table.InstructionRow.{InstructionRow}
-use Rattle.s7_base.specs.InstructionSet.{instruction_set}
+use Rattle.instruction_set.specs.declared.table.InstructionRow.{InstructionRow}
+use Rattle.instruction_set.specs.InstructionSet.{instruction_set}
 use Rattle.s7_base.specs.Operands.{allows}
 use Rattle.stl_lex.specs.Bytes.{letters_of}
 use Rattle.stl_reader.specs.declared.forms.OperandForm.{OperandForm}
