@@ -8,3 +8,4 @@ pub mod Takes
 pub mod Statements
 pub mod Tables
 pub mod Again
+pub mod Calls
