@@ -42,7 +42,7 @@ any_key key k (y ∷ ys) x same (inr h) = by (bytes_eq k (key y)) (any_key key k
     by false e = e
 
 -- the one with this key is found, where no key stands twice
-find_key : {A : Type 0} (key : A → List ℕ) (w : List ℕ) (xs : List A) (x : A) → are_apart (map key xs) ≡ true → IsOneOf x xs → bytes_eq (key x) w ≡ true → find (λ r. bytes_eq (key r) w) xs ≡ Some x
+pub find_key : {A : Type 0} (key : A → List ℕ) (w : List ℕ) (xs : List A) (x : A) → are_apart (map key xs) ≡ true → IsOneOf x xs → bytes_eq (key x) w ≡ true → find (λ r. bytes_eq (key r) w) xs ≡ Some x
 find_key key w [] x apart h e = absurd h
 find_key key w (y ∷ ys) x apart (inl is) e =
     let one : bytes_eq (key y) w ≡ true = ap (λ r. bytes_eq (key r) w) is ∙ e in

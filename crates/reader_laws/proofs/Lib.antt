@@ -9,3 +9,4 @@ pub mod Statements
 pub mod Tables
 pub mod Again
 pub mod Calls
+pub mod Compared

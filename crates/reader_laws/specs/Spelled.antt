@@ -3,19 +3,22 @@ use Rattle.std.specs.Prelude.{◌≡◌, ℕ, List, ◌∷◌, ◌++◌, ◌⊎�
 use Rattle.s7_base.specs.declared.operands.OperandArea.TheVariants as areas
 use Rattle.s7_base.specs.Operands.{is_data_number}
 use Rattle.stl_lex.specs.declared.piece.TokenKind.TheVariants as kinds
+use Rattle.stl_lex.specs.Bytes.{letters_of}
 use Rattle.stl_lex.specs.declared.token.Token.{Token}
 use Rattle.stl_decl.specs.declared.constants.Constant.{Constant}
 use Rattle.stl_decl.specs.Constants.{constant_of}
-use Rattle.stl_decl.specs.Steps.{spelling, is_word_kind, is_word}
+use Rattle.stl_decl.specs.Steps.{spelling, is_number_kind, is_word_kind, is_word}
 use Rattle.stl_decl.specs.Layout.{Section}
 use Rattle.stl_reader.specs.declared.forms.OperandForm.TheVariants as forms
 use Rattle.stl_reader.specs.declared.words.OperandWord.{OperandWord}
+use Rattle.stl_reader.specs.declared.words.StatusSign.{StatusSign}
+use Rattle.stl_reader.specs.OperandWords.{status_signs}
 use Rattle.stl_reader.specs.Forms.{accepts}
 use Rattle.stl_reader.specs.Words.{operand_word}
 use Rattle.stl_reader.specs.Operands.{label_name}
 use Rattle.stl_reader.specs.Constants.{form_of, constant_operand}
 use Rattle.stl_reader.specs.Statements.{operand_at}
-use Rattle.reader_laws.specs.Tokens.{IsNumber, IsSign, IsRowWord}
+use Rattle.reader_laws.specs.Tokens.{IsOneOf, IsNumber, IsSign, IsRowWord}
 use Rattle.reader_laws.specs.Operands.{IsAddress, operand, last_of}
 
 -- a word of the table, in large or small letters, is found as its row and as no other
@@ -61,3 +64,10 @@ SystemFunctionsSpelledAreRead =
     → IsRowWord text row w → row.form ≡ forms.SystemFunction → IsNumber text number n → (number ≡ 43) ⊎ (number ≡ 46)
     → accepts mnemonic forms.Function ≡ true → accepts mnemonic forms.SystemFunction ≡ true → accepts mnemonic forms.Label ≡ false
     → operand_at text temps mnemonic (w ∷ n ∷ rest) ≡ Ok (operand row.area row.unit 0 number, n, rest)
+
+-- a comparison with 0 is read as that status operand, whatever follows
+abbrev pub ComparisonsSpelledAreRead : Type 0
+ComparisonsSpelledAreRead =
+    (text : List ℕ) (temps : Section) (mnemonic : List ℕ) (row : StatusSign) (s z : Token) (rest : List Token)
+    → IsOneOf row status_signs → IsSign text (letters_of row.sign) s → is_number_kind z.kind ≡ true → spelling text z ≡ codes "0" → accepts mnemonic forms.Status ≡ true
+    → operand_at text temps mnemonic (s ∷ z ∷ rest) ≡ Ok (operand areas.Status 0 0 row.value, z, rest)

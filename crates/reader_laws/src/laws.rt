@@ -1,7 +1,7 @@
 //! What the reader reads, by how the language is spelled.
 ghost use Rattle.reader_laws.specs.Operands.{OperandsReadAreSpelled};
 ghost use Rattle.reader_laws.specs.Statements.{StatementsReadAreSpelled};
-ghost use Rattle.reader_laws.specs.Spelled.{WordsSpelledAreFound, AddressesSpelledAreRead, LiteralsSpelledAreRead, LabelsSpelledAreRead, InstancesSpelledAreRead, SystemFunctionsSpelledAreRead};
+ghost use Rattle.reader_laws.specs.Spelled.{WordsSpelledAreFound, AddressesSpelledAreRead, LiteralsSpelledAreRead, LabelsSpelledAreRead, InstancesSpelledAreRead, SystemFunctionsSpelledAreRead, ComparisonsSpelledAreRead};
 ghost use Rattle.reader_laws.specs.Tables.{WordsSayTheirOperands, OneOperationForAnOperand};
 
 /// What is read as an operand is spelled so, by the tables of the language: its word says its area and its unit, its
@@ -62,4 +62,9 @@ pub fn instances_spelled_are_read()
 /// SFC 43 and SFC 46 are read as these system functions, whatever follows them.
 pub fn system_functions_spelled_are_read()
     ensures { SystemFunctionsSpelledAreRead }
+{}
+
+/// A comparison sign and 0 are read as that status operand, whatever follows them.
+pub fn comparisons_spelled_are_read()
+    ensures { ComparisonsSpelledAreRead }
 {}
