@@ -1,5 +1,5 @@
 -- Calls, labels and literals that are spelled so are read.
-use Rattle.std.proofs.Common.{◌≡◌, ℕ, List, [], ◌∷◌, refl, subst, ap, sym, ◌∙◌, Bool, true, false, ◌⊎◌, inl, inr}
+use Rattle.std.proofs.Common.{◌≡◌, ℕ, List, ◌∷◌, refl, true, false, ◌⊎◌, inl, inr}
 use Rattle.std.specs.Prelude.{Ok, Some, codes}
 use Rattle.s7_base.specs.declared.operands.OperandArea.TheVariants as areas
 use Rattle.s7_base.specs.Operands.{is_data_number}
@@ -21,7 +21,7 @@ use Rattle.stl_reader.specs.Constants.{is_real, form_of, constant_operand, singl
 use Rattle.stl_reader.specs.Statements.{kind_operand, operand_at}
 use Rattle.reader_laws.specs.Tokens.{IsNumber, IsSign, IsRowWord}
 use Rattle.reader_laws.specs.Operands.{operand}
-use Rattle.reader_laws.proofs.Again.{word_again, word_is, number_again, address_again, sign_again, byte_again, not_real, kind_again}
+use Rattle.reader_laws.proofs.Again.{word_again, word_is, address_again, sign_again, byte_again, not_real, kind_again}
 
 module _ (text : List ℕ) (temps : Section) (mnemonic : List ℕ) where
   -- an operand that begins with a word, by what stands behind the word

@@ -1,5 +1,5 @@
 -- Comparisons with 0 that are spelled so are read.
-use Rattle.std.proofs.Common.{◌≡◌, ℕ, List, [], ◌∷◌, refl, subst, ap, sym, ◌∙◌, Bool, true, false, ◌&&◌, ◌||◌}
+use Rattle.std.proofs.Common.{◌≡◌, ℕ, List, ◌∷◌, refl, ap, sym, ◌∙◌, Bool, true, false, ◌&&◌, ◌||◌}
 use Rattle.std.specs.Prelude.{Ok, Some, map, not, codes}
 use Rattle.std.specs.List.{list_all}
 use Rattle.std.specs.Str.{bytes_eq}
@@ -18,7 +18,7 @@ use Rattle.stl_reader.specs.declared.addresses.Operand.{Operand}
 use Rattle.stl_reader.specs.Forms.{accepts}
 use Rattle.stl_reader.specs.OperandWords.{status_signs}
 use Rattle.stl_reader.specs.Words.{status_sign}
-use Rattle.stl_reader.specs.Constants.{is_plus_or_minus, is_real, zero_at, status_operand, sign_by}
+use Rattle.stl_reader.specs.Constants.{is_plus_or_minus, is_real, status_operand, sign_by}
 use Rattle.stl_reader.specs.Statements.{kind_operand, operand_at}
 use Rattle.reader_laws.specs.Tokens.{IsOneOf, IsSign}
 use Rattle.reader_laws.specs.Operands.{operand}
@@ -66,8 +66,8 @@ comparison_read text temps mnemonic row s z rest h sign number zero takes =
     let letters : spelling text s ≡ letters_of row.sign = (bytes_eq-Decides (spelling text s) (letters_of row.sign)).0 parts.1 in
     let no_sum = each is_no_sum status_signs row no_sums h in
     let sum : is_plus_or_minus text s ≡ false =
-        ap (λ w. is_sign_kind s.kind && bytes_eq w (codes "+") || is_sign_kind s.kind && bytes_eq w (codes "-")) letters
-        ∙ both_not (is_sign_kind s.kind) (bytes_eq (letters_of row.sign) (codes "+")) (bytes_eq (letters_of row.sign) (codes "-")) no_sum in
+    ap (λ w. is_sign_kind s.kind && bytes_eq w (codes "+") || is_sign_kind s.kind && bytes_eq w (codes "-")) letters
+    ∙ both_not (is_sign_kind s.kind) (bytes_eq (letters_of row.sign) (codes "+")) (bytes_eq (letters_of row.sign) (codes "-")) no_sum in
     let kind = sign_is s.kind parts.0 in
     let same : bytes_eq (spelling text z) (codes "0") ≡ true = (bytes_eq-Decides (spelling text z) (codes "0")).1 zero in
     rw (figure text s (z ∷ rest) kind sum)
