@@ -26,7 +26,7 @@ use Rattle.reader_laws.specs.Tokens.{IsOneOf, IsNumber, IsSign, IsRowWord}
 use Rattle.reader_laws.specs.Operands.{IsAddress, of_bit, of_number, of_word, is_bare, is_numbered, operand, last_of}
 use Rattle.reader_laws.specs.Tables.{are_apart}
 
-no_longer : (b : Bool) → b ≡ true → not b ≡ true → ⊥
+pub no_longer : (b : Bool) → b ≡ true → not b ≡ true → ⊥
 no_longer true h k = cc
 no_longer false h k = cc
 
@@ -42,7 +42,7 @@ any_key key k (y ∷ ys) x same (inr h) = by (bytes_eq k (key y)) (any_key key k
     by false e = e
 
 -- the one with this key is found, where no key stands twice
-find_key : {A : Type 0} (key : A → List ℕ) (w : List ℕ) (xs : List A) (x : A) → are_apart (map key xs) ≡ true → IsOneOf x xs → bytes_eq (key x) w ≡ true → find (λ r. bytes_eq (key r) w) xs ≡ Some x
+pub find_key : {A : Type 0} (key : A → List ℕ) (w : List ℕ) (xs : List A) (x : A) → are_apart (map key xs) ≡ true → IsOneOf x xs → bytes_eq (key x) w ≡ true → find (λ r. bytes_eq (key r) w) xs ≡ Some x
 find_key key w [] x apart h e = absurd h
 find_key key w (y ∷ ys) x apart (inl is) e =
     let one : bytes_eq (key y) w ≡ true = ap (λ r. bytes_eq (key r) w) is ∙ e in
@@ -67,22 +67,22 @@ pub word_again : (text : List ℕ) (row : OperandWord) (w : Token) → IsRowWord
 unfolding operand_word
 word_again text row w h = find_key word_key (str_to_ascii_lowercase (spelling text w)) operand_words row keys_apart h.listed h.letters
 
-number_no_sign : (k : TokenKind) → is_number_kind k ≡ true → is_sign_kind k ≡ false
+pub number_no_sign : (k : TokenKind) → is_number_kind k ≡ true → is_sign_kind k ≡ false
 number_no_sign kinds.Number h = refl
 number_no_sign _ h = absurd cc
 
-word_is : (k : TokenKind) → is_word_kind k ≡ true → k ≡ kinds.Word
+pub word_is : (k : TokenKind) → is_word_kind k ≡ true → k ≡ kinds.Word
 word_is kinds.Word h = refl
 word_is _ h = absurd cc
 
 module _ (text mnemonic : List ℕ) where
-  number_again : (n : ℕ) (t : Token) (ts : List Token) → IsNumber text n t → part_number text mnemonic (t ∷ ts) ≡ Ok (n, t, ts)
+  pub number_again : (n : ℕ) (t : Token) (ts : List Token) → IsNumber text n t → part_number text mnemonic (t ∷ ts) ≡ Ok (n, t, ts)
   number_again n t ts h = rw (h.kind, h.value) refl
 
-  address_again : (n : ℕ) (t : Token) (ts : List Token) → IsNumber text n t → address text mnemonic (t ∷ ts) ≡ Ok (n, t, ts)
+  pub address_again : (n : ℕ) (t : Token) (ts : List Token) → IsNumber text n t → address text mnemonic (t ∷ ts) ≡ Ok (n, t, ts)
   address_again n t ts h = rw (number_no_sign t.kind h.kind, h.kind, h.value) refl
 
-  sign_again : (sign : List ℕ) (t : Token) (ts : List Token) → IsSign text sign t → part_sign text mnemonic sign (t ∷ ts) ≡ Ok (t, ts)
+  pub sign_again : (sign : List ℕ) (t : Token) (ts : List Token) → IsSign text sign t → part_sign text mnemonic sign (t ∷ ts) ≡ Ok (t, ts)
   sign_again sign t ts h = rw h refl
 
   bit_again : (row : OperandWord) (first : Token) (byte bit : ℕ) (b p x : Token) (rest : List Token) → IsNumber text byte b → IsSign text (codes ".") p → IsNumber text bit x → nat_le bit 7 ≡ true → bit_operand text mnemonic row first (b ∷ p ∷ x ∷ rest) ≡ Ok (operand row.area bit 0 byte, x, rest)
@@ -90,7 +90,7 @@ module _ (text mnemonic : List ℕ) where
   bit_again row first byte bit b p x rest hb hp hx small =
       rw (address_again byte b (p ∷ x ∷ rest) hb, sign_again (codes ".") p (x ∷ rest) hp, number_again bit x rest hx, small) refl
 
-  byte_again : (row : OperandWord) (n : ℕ) (t : Token) (rest : List Token) → IsNumber text n t → byte_operand text mnemonic row (t ∷ rest) ≡ Ok (operand row.area row.unit 0 n, t, rest)
+  pub byte_again : (row : OperandWord) (n : ℕ) (t : Token) (rest : List Token) → IsNumber text n t → byte_operand text mnemonic row (t ∷ rest) ≡ Ok (operand row.area row.unit 0 n, t, rest)
   unfolding byte_operand
   byte_again row n t rest h = rw (address_again n t rest h) refl
 
@@ -139,10 +139,10 @@ module _ (text mnemonic : List ℕ) where
   area_again row bit value w ts rest word h takes label alone =
       rw (label, word_again text row w word) (row_again row.form row bit value w ts rest refl h takes alone)
 
-not_real : (text : List ℕ) (t : Token) (ts : List Token) → t.kind ≡ kinds.Word → is_real text (t ∷ ts) ≡ false
+pub not_real : (text : List ℕ) (t : Token) (ts : List Token) → t.kind ≡ kinds.Word → is_real text (t ∷ ts) ≡ false
 not_real text t ts kind = rw kind refl
 
-kind_again : (kind : TokenKind) (text : List ℕ) (temps : Section) (mnemonic : List ℕ) (w : Token) (rest tokens : List Token) (r : Operand × Token × List Token) → kind ≡ kinds.Word → area_operand text mnemonic w rest ≡ Ok r → kind_operand kind text temps mnemonic w rest tokens ≡ Ok r
+pub kind_again : (kind : TokenKind) (text : List ℕ) (temps : Section) (mnemonic : List ℕ) (w : Token) (rest tokens : List Token) (r : Operand × Token × List Token) → kind ≡ kinds.Word → area_operand text mnemonic w rest ≡ Ok r → kind_operand kind text temps mnemonic w rest tokens ≡ Ok r
 kind_again kinds.Word text temps mnemonic w rest tokens r is e = e
 kind_again _ text temps mnemonic w rest tokens r is e = absurd cc
 

@@ -8,3 +8,5 @@ pub mod Takes
 pub mod Statements
 pub mod Tables
 pub mod Again
+pub mod Calls
+pub mod Compared

@@ -1,14 +1,24 @@
 -- What is spelled so is read: operands that begin with a word of the table, whatever follows them.
-use Rattle.std.specs.Prelude.{◌≡◌, ℕ, List, ◌∷◌, ◌++◌, true, false, Some, Ok}
+use Rattle.std.specs.Prelude.{◌≡◌, ℕ, List, ◌∷◌, ◌++◌, ◌⊎◌, true, false, Some, Ok, codes}
+use Rattle.s7_base.specs.declared.operands.OperandArea.TheVariants as areas
+use Rattle.s7_base.specs.Operands.{is_data_number}
+use Rattle.stl_lex.specs.declared.piece.TokenKind.TheVariants as kinds
+use Rattle.stl_lex.specs.Bytes.{letters_of}
 use Rattle.stl_lex.specs.declared.token.Token.{Token}
-use Rattle.stl_decl.specs.Steps.{spelling}
+use Rattle.stl_decl.specs.declared.constants.Constant.{Constant}
+use Rattle.stl_decl.specs.Constants.{constant_of}
+use Rattle.stl_decl.specs.Steps.{spelling, is_number_kind, is_word_kind, is_word}
 use Rattle.stl_decl.specs.Layout.{Section}
 use Rattle.stl_reader.specs.declared.forms.OperandForm.TheVariants as forms
 use Rattle.stl_reader.specs.declared.words.OperandWord.{OperandWord}
+use Rattle.stl_reader.specs.declared.words.StatusSign.{StatusSign}
+use Rattle.stl_reader.specs.OperandWords.{status_signs}
 use Rattle.stl_reader.specs.Forms.{accepts}
 use Rattle.stl_reader.specs.Words.{operand_word}
+use Rattle.stl_reader.specs.Operands.{label_name}
+use Rattle.stl_reader.specs.Constants.{form_of, constant_operand}
 use Rattle.stl_reader.specs.Statements.{operand_at}
-use Rattle.reader_laws.specs.Tokens.{IsRowWord}
+use Rattle.reader_laws.specs.Tokens.{IsOneOf, IsNumber, IsSign, IsRowWord}
 use Rattle.reader_laws.specs.Operands.{IsAddress, operand, last_of}
 
 -- a word of the table, in large or small letters, is found as its row and as no other
@@ -24,3 +34,40 @@ AddressesSpelledAreRead =
     → IsRowWord text row w → IsAddress text row bit value ts → accepts mnemonic row.form ≡ true → accepts mnemonic forms.Label ≡ false
     → (row.form ≡ forms.FunctionBlock → accepts mnemonic forms.FunctionBlockWithData ≡ false)
     → operand_at text temps mnemonic (w ∷ (ts ++ rest)) ≡ Ok (operand row.area bit 0 value, last_of w ts, rest)
+
+-- a literal or characters are read as the constant that they are, whatever follows
+abbrev pub LiteralsSpelledAreRead : Type 0
+LiteralsSpelledAreRead =
+    (text : List ℕ) (temps : Section) (mnemonic : List ℕ) (c : Constant) (t : Token) (rest : List Token)
+    → (t.kind ≡ kinds.Literal) ⊎ (t.kind ≡ kinds.Characters) → constant_of text t ≡ Some c → accepts mnemonic (form_of c.form) ≡ true
+    → operand_at text temps mnemonic (t ∷ rest) ≡ Ok (constant_operand c, t, rest)
+
+-- a word of at most four letters is read as a label behind each mnemonic that takes one, whatever follows
+abbrev pub LabelsSpelledAreRead : Type 0
+LabelsSpelledAreRead =
+    (text : List ℕ) (temps : Section) (mnemonic name : List ℕ) (w : Token) (rest : List Token)
+    → is_word_kind w.kind ≡ true → label_name (spelling text w) ≡ Some name → accepts mnemonic forms.Label ≡ true
+    → operand_at text temps mnemonic (w ∷ rest) ≡ Ok (record { area = areas.Target; bit = 0; db = 0; value = 0; name = name }, w, rest)
+
+-- FB n, DB m is read as the call of the block with its data, whatever follows
+abbrev pub InstancesSpelledAreRead : Type 0
+InstancesSpelledAreRead =
+    (text : List ℕ) (temps : Section) (mnemonic : List ℕ) (row : OperandWord) (number db : ℕ) (w n c d m : Token) (rest : List Token)
+    → IsRowWord text row w → row.form ≡ forms.FunctionBlock → IsNumber text number n → IsSign text (codes ",") c → is_word text d (codes "DB") ≡ true
+    → IsNumber text db m → is_data_number db ≡ true → accepts mnemonic forms.FunctionBlockWithData ≡ true → accepts mnemonic forms.Label ≡ false
+    → operand_at text temps mnemonic (w ∷ n ∷ c ∷ d ∷ m ∷ rest) ≡ Ok (operand row.area row.unit db number, m, rest)
+
+-- SFC 43 and SFC 46 are read as the call of that system function, whatever follows
+abbrev pub SystemFunctionsSpelledAreRead : Type 0
+SystemFunctionsSpelledAreRead =
+    (text : List ℕ) (temps : Section) (mnemonic : List ℕ) (row : OperandWord) (number : ℕ) (w n : Token) (rest : List Token)
+    → IsRowWord text row w → row.form ≡ forms.SystemFunction → IsNumber text number n → (number ≡ 43) ⊎ (number ≡ 46)
+    → accepts mnemonic forms.Function ≡ true → accepts mnemonic forms.SystemFunction ≡ true → accepts mnemonic forms.Label ≡ false
+    → operand_at text temps mnemonic (w ∷ n ∷ rest) ≡ Ok (operand row.area row.unit 0 number, n, rest)
+
+-- a comparison with 0 is read as that status operand, whatever follows
+abbrev pub ComparisonsSpelledAreRead : Type 0
+ComparisonsSpelledAreRead =
+    (text : List ℕ) (temps : Section) (mnemonic : List ℕ) (row : StatusSign) (s z : Token) (rest : List Token)
+    → IsOneOf row status_signs → IsSign text (letters_of row.sign) s → is_number_kind z.kind ≡ true → spelling text z ≡ codes "0" → accepts mnemonic forms.Status ≡ true
+    → operand_at text temps mnemonic (s ∷ z ∷ rest) ≡ Ok (operand areas.Status 0 0 row.value, z, rest)

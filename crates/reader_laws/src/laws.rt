@@ -1,7 +1,7 @@
 //! What the reader reads, by how the language is spelled.
 ghost use Rattle.reader_laws.specs.Operands.{OperandsReadAreSpelled};
 ghost use Rattle.reader_laws.specs.Statements.{StatementsReadAreSpelled};
-ghost use Rattle.reader_laws.specs.Spelled.{WordsSpelledAreFound, AddressesSpelledAreRead};
+ghost use Rattle.reader_laws.specs.Spelled.{WordsSpelledAreFound, AddressesSpelledAreRead, LiteralsSpelledAreRead, LabelsSpelledAreRead, InstancesSpelledAreRead, SystemFunctionsSpelledAreRead, ComparisonsSpelledAreRead};
 ghost use Rattle.reader_laws.specs.Tables.{WordsSayTheirOperands, OneOperationForAnOperand};
 
 /// What is read as an operand is spelled so, by the tables of the language: its word says its area and its unit, its
@@ -41,4 +41,30 @@ pub fn words_spelled_are_found()
 /// it.
 pub fn addresses_spelled_are_read()
     ensures { AddressesSpelledAreRead }
+{}
+
+/// A literal or characters are read as the constant that they are, whatever follows them, behind each mnemonic that
+/// takes constants of this form.
+pub fn literals_spelled_are_read()
+    ensures { LiteralsSpelledAreRead }
+{}
+
+/// A word of at most four letters is read as a label, whatever follows it, behind each mnemonic that takes a label.
+pub fn labels_spelled_are_read()
+    ensures { LabelsSpelledAreRead }
+{}
+
+/// `FB n, DB m` is read as an FB with its data block, whatever follows it.
+pub fn instances_spelled_are_read()
+    ensures { InstancesSpelledAreRead }
+{}
+
+/// SFC 43 and SFC 46 are read as these system functions, whatever follows them.
+pub fn system_functions_spelled_are_read()
+    ensures { SystemFunctionsSpelledAreRead }
+{}
+
+/// A comparison sign and 0 are read as that status operand, whatever follows them.
+pub fn comparisons_spelled_are_read()
+    ensures { ComparisonsSpelledAreRead }
 {}
