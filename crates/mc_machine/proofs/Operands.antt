@@ -9,8 +9,8 @@ use Rattle.instruction_set.specs.declared.operands.OperandArea.TheVariants as ar
 use Rattle.instruction_set.specs.Areas.{area_number}
 use Rattle.s7_base.specs.Operands.{is_in, is_data_number, ends_by, is_within, is_of_cpu, is_of_data, is_memory, is_bit, unit_bytes, is_value, is_peripheral, is_number, is_up_to, is_exactly, is_timer_or_counter, is_constant, is_about_data, allows}
 use Rattle.s7_base.specs.Blocks.{is_elsewhere}
-use Rattle.status_word.specs.declared.status.Check.{Check}
-use Rattle.accumulators.specs.declared.shifts.Shift.{Shift}
+use Rattle.instruction_set.specs.declared.operation.Check.{Check}
+use Rattle.instruction_set.specs.declared.operation.Shift.{Shift}
 use Rattle.mc_machine.specs.declared.instruction.BitPlace.{BitPlace}
 use Rattle.mc_machine.specs.declared.instruction.BitInstruction.{BitInstruction}
 use Rattle.mc_machine.specs.declared.instruction.TimerOperation.{TimerOperation}

@@ -10,9 +10,9 @@ use Rattle.s7_base.specs.Operands.{allows}
 use Rattle.instruction_set.specs.Rows.{row_of}
 use Rattle.s7_base.specs.Statements.{is_of_row, is_statement}
 use Rattle.s7_base.specs.Blocks.{is_elsewhere, is_call_operation, is_call_row, is_played}
-use Rattle.status_word.specs.declared.status.Check.TheVariants as checks
-use Rattle.accumulators.specs.declared.shifts.Shift.TheVariants as shifts
-use Rattle.timers.specs.declared.kind.TimerKind.TheVariants as timer_kinds
+use Rattle.instruction_set.specs.declared.operation.Check.TheVariants as checks
+use Rattle.instruction_set.specs.declared.operation.Shift.TheVariants as shifts
+use Rattle.instruction_set.specs.declared.operation.TimerKind.TheVariants as timer_kinds
 use Rattle.mc_machine.specs.declared.instruction.BitInstruction.TheVariants as bits
 use Rattle.mc_machine.specs.declared.instruction.TimerOperation.TheVariants as timer_ops
 use Rattle.mc_machine.specs.declared.instruction.TimedOperation.TheVariants as timed_ops

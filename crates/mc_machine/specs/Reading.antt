@@ -7,42 +7,24 @@ use Rattle.s7_base.specs.declared.statement.Statement.{Statement}
 use Rattle.instruction_set.specs.declared.table.InstructionRow.{InstructionRow}
 use Rattle.instruction_set.specs.declared.operation.Operation.{Operation}
 use Rattle.instruction_set.specs.declared.operation.Operation.TheVariants as operations
-use Rattle.instruction_set.specs.declared.operation.BitLogic.{BitLogic}
-use Rattle.instruction_set.specs.declared.operation.BitLogic.TheVariants as bit_logic
-use Rattle.instruction_set.specs.declared.operation.Transfer.{Transfer}
-use Rattle.instruction_set.specs.declared.operation.Transfer.TheVariants as transfers
-use Rattle.instruction_set.specs.declared.operation.Arithmetic.{Arithmetic}
-use Rattle.instruction_set.specs.declared.operation.Arithmetic.TheVariants as arithmetic
-use Rattle.instruction_set.specs.declared.operation.Comparison.{Comparison}
-use Rattle.instruction_set.specs.declared.operation.Comparison.TheVariants as comparisons
-use Rattle.instruction_set.specs.declared.operation.WordLogic.{WordLogic}
-use Rattle.instruction_set.specs.declared.operation.WordLogic.TheVariants as word_logic
-use Rattle.instruction_set.specs.declared.operation.ShiftRotate.{ShiftRotate}
-use Rattle.instruction_set.specs.declared.operation.ShiftRotate.TheVariants as shift_rotates
-use Rattle.instruction_set.specs.declared.operation.Branch.{Branch}
-use Rattle.instruction_set.specs.declared.operation.Branch.TheVariants as branches
-use Rattle.instruction_set.specs.declared.operation.TimerControl.{TimerControl}
-use Rattle.instruction_set.specs.declared.operation.TimerControl.TheVariants as timer_controls
-use Rattle.instruction_set.specs.declared.operation.CounterControl.{CounterControl}
-use Rattle.instruction_set.specs.declared.operation.CounterControl.TheVariants as counter_controls
-use Rattle.instruction_set.specs.declared.operation.BlockControl.{BlockControl}
-use Rattle.instruction_set.specs.declared.operation.BlockControl.TheVariants as block_controls
+use Rattle.instruction_set.specs.declared.operation.BitWrite.{BitWrite}
+use Rattle.instruction_set.specs.declared.operation.BitWrite.TheVariants as writes
+use Rattle.instruction_set.specs.declared.operation.RloOperation.{RloOperation}
+use Rattle.instruction_set.specs.declared.operation.RloOperation.TheVariants as rlo
+use Rattle.instruction_set.specs.declared.operation.Edge.TheVariants as edges
+use Rattle.instruction_set.specs.declared.operation.MasterControl.{MasterControl}
+use Rattle.instruction_set.specs.declared.operation.MasterControl.TheVariants as zones
+use Rattle.instruction_set.specs.declared.operation.BlockOperation.{BlockOperation}
+use Rattle.instruction_set.specs.declared.operation.BlockOperation.TheVariants as blocks
+use Rattle.instruction_set.specs.Sizes.{is_wide}
 use Rattle.instruction_set.specs.declared.operands.OperandArea.TheVariants as areas
 use Rattle.s7_base.specs.Operands.{is_in, is_up_to}
 use Rattle.instruction_set.specs.Rows.{row_of}
 use Rattle.s7_events.specs.Optional.{◌>>=◌}
-use Rattle.status_word.specs.declared.status.Check.{Check}
-use Rattle.status_word.specs.declared.status.Check.TheVariants as checks
-use Rattle.status_word.specs.declared.jumps.Jump.TheVariants as jump_kinds
-use Rattle.status_word.specs.declared.numbers.Cmp.TheVariants as relations
-use Rattle.accumulators.specs.declared.accus.Move.{Move}
-use Rattle.accumulators.specs.declared.accus.Move.TheVariants as accu_moves
-use Rattle.accumulators.specs.declared.numbers.Num.TheVariants as nums
-use Rattle.accumulators.specs.declared.words.Word.{Word}
-use Rattle.accumulators.specs.declared.words.Word.TheVariants as word_ops
-use Rattle.accumulators.specs.declared.shifts.Shift.{Shift}
-use Rattle.accumulators.specs.declared.shifts.Shift.TheVariants as shift_kinds
-use Rattle.timers.specs.declared.kind.TimerKind.TheVariants as timer_kinds
+use Rattle.instruction_set.specs.declared.operation.Check.{Check}
+use Rattle.instruction_set.specs.declared.operation.Move.{Move}
+use Rattle.instruction_set.specs.declared.operation.Word.{Word}
+use Rattle.instruction_set.specs.declared.operation.Shift.{Shift}
 use Rattle.mc_machine.specs.declared.instruction.ByteArea.{ByteArea}
 use Rattle.mc_machine.specs.declared.instruction.ByteArea.TheVariants.{I, Q, M}
 use Rattle.mc_machine.specs.declared.instruction.BitPlace.{BitPlace}
@@ -53,13 +35,13 @@ use Rattle.mc_machine.specs.declared.instruction.BitInstruction.{BitInstruction}
 use Rattle.mc_machine.specs.declared.instruction.BitInstruction.TheVariants as bits
 use Rattle.mc_machine.specs.declared.instruction.StatusInstruction.{StatusInstruction}
 use Rattle.mc_machine.specs.declared.instruction.StatusInstruction.TheVariants as status
+use Rattle.mc_machine.specs.declared.instruction.GroupInstruction.{GroupInstruction}
 use Rattle.mc_machine.specs.declared.instruction.GroupInstruction.TheVariants as brackets
 use Rattle.mc_machine.specs.declared.instruction.MoveInstruction.{MoveInstruction}
 use Rattle.mc_machine.specs.declared.instruction.MoveInstruction.TheVariants as moves
 use Rattle.mc_machine.specs.declared.instruction.AccuInstruction.TheVariants as accus
 use Rattle.mc_machine.specs.declared.instruction.NumberInstruction.TheVariants as numbers
 use Rattle.mc_machine.specs.declared.instruction.WordInstruction.TheVariants as words
-use Rattle.mc_machine.specs.declared.instruction.JumpInstruction.{JumpInstruction}
 use Rattle.mc_machine.specs.declared.instruction.JumpInstruction.TheVariants as jumps
 use Rattle.mc_machine.specs.declared.instruction.TimerOperation.{TimerOperation}
 use Rattle.mc_machine.specs.declared.instruction.TimerOperation.TheVariants as timer_ops
@@ -181,158 +163,65 @@ read_shift op s =
     else if nat_le s.value 255 then Some (groups.Word (words.Shift op (Some s.value)))
     else None
 
--- the instruction set, by its groups --
+-- the operations --
 
-abbrev pub read_bit_logic : BitLogic → Statement → Option Instruction
-read_bit_logic bit_logic.And s = read_check checks.And s
-read_bit_logic bit_logic.AndNot s = read_check checks.AndNot s
-read_bit_logic bit_logic.Or s = read_check checks.Or s
-read_bit_logic bit_logic.OrNot s = read_check checks.OrNot s
-read_bit_logic bit_logic.Xor s = read_check checks.Xor s
-read_bit_logic bit_logic.XorNot s = read_check checks.XorNot s
-read_bit_logic bit_logic.OrAlone s = Some (groups.Status status.OrAlone)
-read_bit_logic bit_logic.AndOpen s = Some (groups.Group (brackets.Open checks.And))
-read_bit_logic bit_logic.AndNotOpen s = Some (groups.Group (brackets.Open checks.AndNot))
-read_bit_logic bit_logic.OrOpen s = Some (groups.Group (brackets.Open checks.Or))
-read_bit_logic bit_logic.OrNotOpen s = Some (groups.Group (brackets.Open checks.OrNot))
-read_bit_logic bit_logic.XorOpen s = Some (groups.Group (brackets.Open checks.Xor))
-read_bit_logic bit_logic.XorNotOpen s = Some (groups.Group (brackets.Open checks.XorNot))
-read_bit_logic bit_logic.Close s = Some (groups.Group brackets.Close)
-read_bit_logic bit_logic.Assign s = read_bit bits.Assign s
-read_bit_logic bit_logic.Set s = read_set s
-read_bit_logic bit_logic.Reset s = read_reset s
-read_bit_logic bit_logic.Invert s = Some (groups.Status status.Invert)
-read_bit_logic bit_logic.SetRlo s = Some (groups.Status status.SetRlo)
-read_bit_logic bit_logic.ClearRlo s = Some (groups.Status status.ClearRlo)
-read_bit_logic bit_logic.SaveRlo s = Some (groups.Status status.SaveRlo)
-read_bit_logic bit_logic.RisingEdge s = read_bit (bits.Edge true) s
-read_bit_logic bit_logic.FallingEdge s = read_bit (bits.Edge false) s
-read_bit_logic bit_logic.ActivateMcr s = Some (groups.Group (brackets.Activate true))
-read_bit_logic bit_logic.DeactivateMcr s = Some (groups.Group (brackets.Activate false))
-read_bit_logic bit_logic.OpenMcr s = Some (groups.Group brackets.OpenZone)
-read_bit_logic bit_logic.CloseMcr s = Some (groups.Group brackets.CloseZone)
+-- `=`, S and R
+abbrev pub read_write : BitWrite → Statement → Option Instruction
+read_write writes.Assign s = read_bit bits.Assign s
+read_write writes.Set s = read_set s
+read_write writes.Reset s = read_reset s
 
-abbrev pub read_accu : Move → Option Instruction
-read_accu op = Some (groups.Accu (accus.Move op))
+abbrev pub read_rlo : RloOperation → StatusInstruction
+read_rlo rlo.NegateRlo = status.Invert
+read_rlo rlo.SetRlo = status.SetRlo
+read_rlo rlo.ClearRlo = status.ClearRlo
+read_rlo rlo.SaveRlo = status.SaveRlo
 
-abbrev pub read_transfer : Transfer → Statement → Option Instruction
-read_transfer transfers.Load s = read_load s
-read_transfer transfers.Store s = read_store s
-read_transfer transfers.LoadCoded s = read_coded s
-read_transfer transfers.Push s = read_accu accu_moves.Push
-read_transfer transfers.Pop s = read_accu accu_moves.Pop
-read_transfer transfers.Enter s = read_accu accu_moves.Ent
-read_transfer transfers.Leave s = read_accu accu_moves.Leave
-read_transfer transfers.Toggle s = read_accu accu_moves.Tak
-read_transfer transfers.SwapWord s = read_accu accu_moves.Caw
-read_transfer transfers.SwapDouble s = read_accu accu_moves.Cad
-read_transfer transfers.Increment s = read_count false s
-read_transfer transfers.Decrement s = read_count true s
-read_transfer transfers.AddConstant s = read_add s
-
-abbrev pub read_arithmetic : Arithmetic → Instruction
-read_arithmetic arithmetic.AddInt = groups.Number (numbers.Work nums.AddI)
-read_arithmetic arithmetic.SubInt = groups.Number (numbers.Work nums.SubI)
-read_arithmetic arithmetic.MulInt = groups.Number (numbers.Work nums.MulI)
-read_arithmetic arithmetic.DivInt = groups.Number (numbers.Work nums.DivI)
-read_arithmetic arithmetic.AddDouble = groups.Number (numbers.Work nums.AddD)
-read_arithmetic arithmetic.SubDouble = groups.Number (numbers.Work nums.SubD)
-read_arithmetic arithmetic.MulDouble = groups.Number (numbers.Work nums.MulD)
-read_arithmetic arithmetic.DivDouble = groups.Number (numbers.Work nums.DivD)
-read_arithmetic arithmetic.Modulo = groups.Number (numbers.Work nums.ModD)
-read_arithmetic arithmetic.NegateInt = groups.Number (numbers.Work nums.NegI)
-read_arithmetic arithmetic.NegateDouble = groups.Number (numbers.Work nums.NegD)
-read_arithmetic arithmetic.InvertInt = groups.Accu (accus.Move accu_moves.Invi)
-read_arithmetic arithmetic.InvertDouble = groups.Accu (accus.Move accu_moves.Invd)
-read_arithmetic arithmetic.BcdToInt = groups.Number (numbers.FromBcd false)
-read_arithmetic arithmetic.IntToBcd = groups.Number (numbers.ToBcd false)
-read_arithmetic arithmetic.BcdToDouble = groups.Number (numbers.FromBcd true)
-read_arithmetic arithmetic.DoubleToBcd = groups.Number (numbers.ToBcd true)
-read_arithmetic arithmetic.IntToDouble = groups.Accu (accus.Move accu_moves.Itd)
-
-abbrev pub read_comparison : Comparison → Instruction
-read_comparison comparisons.EqualInt = groups.Number (numbers.Compare relations.Eq false)
-read_comparison comparisons.UnequalInt = groups.Number (numbers.Compare relations.Ne false)
-read_comparison comparisons.GreaterInt = groups.Number (numbers.Compare relations.Gt false)
-read_comparison comparisons.LessInt = groups.Number (numbers.Compare relations.Lt false)
-read_comparison comparisons.GreaterEqualInt = groups.Number (numbers.Compare relations.Ge false)
-read_comparison comparisons.LessEqualInt = groups.Number (numbers.Compare relations.Le false)
-read_comparison comparisons.EqualDouble = groups.Number (numbers.Compare relations.Eq true)
-read_comparison comparisons.UnequalDouble = groups.Number (numbers.Compare relations.Ne true)
-read_comparison comparisons.GreaterDouble = groups.Number (numbers.Compare relations.Gt true)
-read_comparison comparisons.LessDouble = groups.Number (numbers.Compare relations.Lt true)
-read_comparison comparisons.GreaterEqualDouble = groups.Number (numbers.Compare relations.Ge true)
-read_comparison comparisons.LessEqualDouble = groups.Number (numbers.Compare relations.Le true)
-
-abbrev pub read_word_logic : WordLogic → Statement → Option Instruction
-read_word_logic word_logic.AndWord s = read_logic word_ops.And false s
-read_word_logic word_logic.OrWord s = read_logic word_ops.Or false s
-read_word_logic word_logic.XorWord s = read_logic word_ops.Xor false s
-read_word_logic word_logic.AndDouble s = read_logic word_ops.And true s
-read_word_logic word_logic.OrDouble s = read_logic word_ops.Or true s
-read_word_logic word_logic.XorDouble s = read_logic word_ops.Xor true s
-
-abbrev pub read_shift_rotate : ShiftRotate → Statement → Option Instruction
-read_shift_rotate shift_rotates.ShiftInt s = read_shift shift_kinds.Ssi s
-read_shift_rotate shift_rotates.ShiftLeftWord s = read_shift shift_kinds.Slw s
-read_shift_rotate shift_rotates.ShiftRightWord s = read_shift shift_kinds.Srw s
-read_shift_rotate shift_rotates.ShiftDouble s = read_shift shift_kinds.Ssd s
-read_shift_rotate shift_rotates.ShiftLeftDouble s = read_shift shift_kinds.Sld s
-read_shift_rotate shift_rotates.ShiftRightDouble s = read_shift shift_kinds.Srd s
-read_shift_rotate shift_rotates.RotateLeft s = read_shift shift_kinds.Rld s
-read_shift_rotate shift_rotates.RotateRight s = read_shift shift_kinds.Rrd s
-
-abbrev pub read_branch : Branch → ℕ → JumpInstruction
-read_branch branches.Jl target = jumps.List target
-read_branch branches.Ju target = jumps.When jump_kinds.Ju target
-read_branch branches.Jc target = jumps.When jump_kinds.Jc target
-read_branch branches.Jcn target = jumps.When jump_kinds.Jcn target
-read_branch branches.Jcb target = jumps.When jump_kinds.Jcb target
-read_branch branches.Jnb target = jumps.When jump_kinds.Jnb target
-read_branch branches.Jbi target = jumps.When jump_kinds.Jbi target
-read_branch branches.Jnbi target = jumps.When jump_kinds.Jnbi target
-read_branch branches.Jo target = jumps.When jump_kinds.Jo target
-read_branch branches.Jos target = jumps.When jump_kinds.Jos target
-read_branch branches.Jz target = jumps.When jump_kinds.Jz target
-read_branch branches.Jn target = jumps.When jump_kinds.Jn target
-read_branch branches.Jp target = jumps.When jump_kinds.Jp target
-read_branch branches.Jm target = jumps.When jump_kinds.Jm target
-read_branch branches.Jpz target = jumps.When jump_kinds.Jpz target
-read_branch branches.Jmz target = jumps.When jump_kinds.Jmz target
-read_branch branches.Juo target = jumps.When jump_kinds.Juo target
-read_branch branches.Loop target = jumps.Loop target
-
-abbrev pub read_timer_control : TimerControl → Statement → Option Instruction
-read_timer_control timer_controls.Sp s = read_timed (timed_ops.Start timer_kinds.Sp) s
-read_timer_control timer_controls.Se s = read_timed (timed_ops.Start timer_kinds.Se) s
-read_timer_control timer_controls.Sd s = read_timed (timed_ops.Start timer_kinds.Sd) s
-read_timer_control timer_controls.Ss s = read_timed (timed_ops.Start timer_kinds.Ss) s
-read_timer_control timer_controls.Sf s = read_timed (timed_ops.Start timer_kinds.Sf) s
-read_timer_control timer_controls.Fr s = read_timer timer_ops.Enable s
-
-abbrev pub read_counter_control : CounterControl → Statement → Option Instruction
-read_counter_control counter_controls.Cu s = read_counter counter_ops.Up s
-read_counter_control counter_controls.Cd s = read_counter counter_ops.Down s
-read_counter_control counter_controls.Fr s = read_counter counter_ops.Enable s
+abbrev pub read_master_control : MasterControl → GroupInstruction
+read_master_control zones.Activate = brackets.Activate true
+read_master_control zones.Deactivate = brackets.Activate false
+read_master_control zones.OpenZone = brackets.OpenZone
+read_master_control zones.CloseZone = brackets.CloseZone
 
 -- of the statements on blocks the ends alone
-abbrev pub read_block_control : BlockControl → Option Instruction
-read_block_control block_controls.End = Some groups.End
-read_block_control block_controls.EndUnconditional = Some groups.End
-read_block_control block_controls.EndConditional = Some groups.EndWhenSet
-read_block_control _ = None
+abbrev pub read_block : BlockOperation → Option Instruction
+read_block blocks.End = Some groups.End
+read_block blocks.UnconditionalEnd = Some groups.End
+read_block blocks.ConditionalEnd = Some groups.EndWhenSet
+read_block _ = None
 
 abbrev pub read_operation : Operation → Statement → Option Instruction
-read_operation (operations.BitLogic op) s = read_bit_logic op s
-read_operation (operations.Transfer op) s = read_transfer op s
-read_operation (operations.Arithmetic op) s = Some (read_arithmetic op)
-read_operation (operations.Comparison op) s = Some (read_comparison op)
-read_operation (operations.WordLogic op) s = read_word_logic op s
-read_operation (operations.ShiftRotate op) s = read_shift_rotate op s
-read_operation (operations.Branch op) s = Some (groups.Jump (read_branch op s.value))
-read_operation (operations.TimerControl op) s = read_timer_control op s
-read_operation (operations.CounterControl op) s = read_counter_control op s
-read_operation (operations.BlockControl op) s = read_block_control op
+read_operation (operations.Check how) s = read_check how s
+read_operation operations.AndBeforeOr s = Some (groups.Status status.OrAlone)
+read_operation (operations.Open how) s = Some (groups.Group (brackets.Open how))
+read_operation operations.Close s = Some (groups.Group brackets.Close)
+read_operation (operations.Write op) s = read_write op s
+read_operation (operations.Rlo op) s = Some (groups.Status (read_rlo op))
+read_operation (operations.Edge edges.Rising) s = read_bit (bits.Edge true) s
+read_operation (operations.Edge edges.Falling) s = read_bit (bits.Edge false) s
+read_operation (operations.MasterControl op) s = Some (groups.Group (read_master_control op))
+read_operation operations.Load s = read_load s
+read_operation operations.Transfer s = read_store s
+read_operation operations.LoadCoded s = read_coded s
+read_operation (operations.Move op) s = Some (groups.Accu (accus.Move op))
+read_operation operations.Increment s = read_count false s
+read_operation operations.Decrement s = read_count true s
+read_operation operations.AddConstant s = read_add s
+read_operation (operations.Number op) s = Some (groups.Number (numbers.Work op))
+read_operation (operations.FromBcd size) s = Some (groups.Number (numbers.FromBcd (is_wide size)))
+read_operation (operations.ToBcd size) s = Some (groups.Number (numbers.ToBcd (is_wide size)))
+read_operation (operations.Compare relation size) s = Some (groups.Number (numbers.Compare relation (is_wide size)))
+read_operation (operations.WordLogic op size) s = read_logic op (is_wide size) s
+read_operation (operations.Shift op) s = read_shift op s
+read_operation (operations.Jump op) s = Some (groups.Jump (jumps.When op s.value))
+read_operation operations.JumpList s = Some (groups.Jump (jumps.List s.value))
+read_operation operations.Loop s = Some (groups.Jump (jumps.Loop s.value))
+read_operation (operations.StartTimer kind) s = read_timed (timed_ops.Start kind) s
+read_operation operations.EnableTimer s = read_timer timer_ops.Enable s
+read_operation operations.CountUp s = read_counter counter_ops.Up s
+read_operation operations.CountDown s = read_counter counter_ops.Down s
+read_operation operations.EnableCounter s = read_counter counter_ops.Enable s
+read_operation (operations.Block op) s = read_block op
 read_operation (operations.NoOperation op) s = Some groups.Nothing
 
 abbrev pub read_row : Option InstructionRow → Statement → Option Instruction

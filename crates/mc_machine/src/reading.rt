@@ -1,22 +1,21 @@
 //! What stored statements mean.
-ghost use Rattle.std.specs.Prelude.{◌≡◌, IfSome};
+ghost use Rattle.std.specs.Prelude.{◌≡◌, Some, IfSome};
 ghost use Rattle.s7_base.specs.Operands.{is_in};
 ghost use Rattle.mc_machine.specs.Areas.{size_of, bytes_in};
-ghost use Rattle.mc_machine.specs.Reading.{area_in, bit_place, width_of, value_place, read_timer, read_timed, read_counter, read_check, read_set, read_reset, read_bit, read_load, read_store, read_coded, read_count, read_add, constant_in, read_logic, read_shift, read_bit_logic, read_accu, read_transfer, read_arithmetic, read_comparison, read_word_logic, read_shift_rotate, read_branch, read_timer_control, read_counter_control, read_block_control, read_operation, instruction_of, IsBitPlaced, IsValuePlaced, HasOperand};
+ghost use Rattle.mc_machine.specs.Reading.{area_in, bit_place, width_of, value_place, read_timer, read_timed, read_counter, read_check, read_set, read_reset, read_bit, read_load, read_store, read_coded, read_count, read_add, constant_in, read_logic, read_shift, read_write, read_rlo, read_master_control, read_block, read_operation, instruction_of, IsBitPlaced, IsValuePlaced, HasNumber, HasOperand};
 ghost use Rattle.mc_machine.specs.declared.instruction.BitInstruction.TheVariants as bits;
+ghost use Rattle.mc_machine.specs.declared.instruction.Instruction.TheVariants as groups;
 
 use crate::instruction::{
     AccuInstruction, BitInstruction, BitPlace, ByteArea, CounterOperation, GroupInstruction,
     Instruction, JumpInstruction, MoveInstruction, NumberInstruction, StatusInstruction,
     TimedOperation, TimerOperation, ValuePlace, Width, WordInstruction,
 };
-use accumulators::{Move, Num, Shift, Word};
-use s7_base::{
-    Arithmetic, BitLogic, BlockControl, Branch, Comparison, CounterControl, OperandArea, Operation,
-    ShiftRotate, Statement, TimerControl, Transfer, WordLogic, instruction_row,
+use instruction_set::{
+    BitWrite, BlockOperation, Check, Edge, MasterControl, OperandArea, Operation, RloOperation,
+    Shift, Word, instruction_row,
 };
-use status_word::{Check, Cmp, Jump};
-use timers::TimerKind;
+use s7_base::Statement;
 
 impl ByteArea {
     /// How many bytes it has.
@@ -292,213 +291,65 @@ fn read_shift(op: Shift, s: &Statement) -> Option<Instruction>
     Some(Instruction::Word(WordInstruction::Shift(op, Some(count))))
 }
 
-fn read_bit_logic(op: BitLogic, s: &Statement) -> Option<Instruction>
-    ensures reads { result ≡ read_bit_logic op s.now }
+/// `=`, `S` and `R`.
+fn read_write(op: BitWrite, s: &Statement) -> Option<Instruction>
+    ensures reads { result ≡ read_write op s.now }
     ensures placed { IfSome result HasOperand }
 {
     match op {
-        BitLogic::And => read_check(Check::And, s),
-        BitLogic::AndNot => read_check(Check::AndNot, s),
-        BitLogic::Or => read_check(Check::Or, s),
-        BitLogic::OrNot => read_check(Check::OrNot, s),
-        BitLogic::Xor => read_check(Check::Xor, s),
-        BitLogic::XorNot => read_check(Check::XorNot, s),
-        BitLogic::OrAlone => Some(Instruction::Status(StatusInstruction::OrAlone)),
-        BitLogic::AndOpen => Some(Instruction::Group(GroupInstruction::Open(Check::And))),
-        BitLogic::AndNotOpen => Some(Instruction::Group(GroupInstruction::Open(Check::AndNot))),
-        BitLogic::OrOpen => Some(Instruction::Group(GroupInstruction::Open(Check::Or))),
-        BitLogic::OrNotOpen => Some(Instruction::Group(GroupInstruction::Open(Check::OrNot))),
-        BitLogic::XorOpen => Some(Instruction::Group(GroupInstruction::Open(Check::Xor))),
-        BitLogic::XorNotOpen => Some(Instruction::Group(GroupInstruction::Open(Check::XorNot))),
-        BitLogic::Close => Some(Instruction::Group(GroupInstruction::Close)),
-        BitLogic::Assign => read_assign(s),
-        BitLogic::Set => read_set(s),
-        BitLogic::Reset => read_reset(s),
-        BitLogic::Invert => Some(Instruction::Status(StatusInstruction::Invert)),
-        BitLogic::SetRlo => Some(Instruction::Status(StatusInstruction::SetRlo)),
-        BitLogic::ClearRlo => Some(Instruction::Status(StatusInstruction::ClearRlo)),
-        BitLogic::SaveRlo => Some(Instruction::Status(StatusInstruction::SaveRlo)),
-        BitLogic::RisingEdge => read_edge(true, s),
-        BitLogic::FallingEdge => read_edge(false, s),
-        BitLogic::ActivateMcr => Some(Instruction::Group(GroupInstruction::Activate(true))),
-        BitLogic::DeactivateMcr => Some(Instruction::Group(GroupInstruction::Activate(false))),
-        BitLogic::OpenMcr => Some(Instruction::Group(GroupInstruction::OpenZone)),
-        BitLogic::CloseMcr => Some(Instruction::Group(GroupInstruction::CloseZone)),
+        BitWrite::Assign => read_assign(s),
+        BitWrite::Set => read_set(s),
+        BitWrite::Reset => read_reset(s),
     }
 }
 
-fn read_accu(op: Move) -> Option<Instruction>
-    ensures reads { result ≡ read_accu op }
-    ensures placed { IfSome result HasOperand }
+fn read_rlo(op: RloOperation) -> StatusInstruction
+    ensures reads { result ≡ read_rlo op }
+    ensures placed { HasNumber result }
 {
-    Some(Instruction::Accu(AccuInstruction::Move(op)))
+    match op {
+        RloOperation::NegateRlo => StatusInstruction::Invert,
+        RloOperation::SetRlo => StatusInstruction::SetRlo,
+        RloOperation::ClearRlo => StatusInstruction::ClearRlo,
+        RloOperation::SaveRlo => StatusInstruction::SaveRlo,
+    }
 }
 
-fn read_transfer(op: Transfer, s: &Statement) -> Option<Instruction>
-    ensures reads { result ≡ read_transfer op s.now }
+fn read_master_control(op: MasterControl) -> GroupInstruction
+    ensures { result ≡ read_master_control op }
+{
+    match op {
+        MasterControl::Activate => GroupInstruction::Activate(true),
+        MasterControl::Deactivate => GroupInstruction::Activate(false),
+        MasterControl::OpenZone => GroupInstruction::OpenZone,
+        MasterControl::CloseZone => GroupInstruction::CloseZone,
+    }
+}
+
+/// Of the statements on blocks the ends alone.
+fn read_block(op: BlockOperation) -> Option<Instruction>
+    ensures reads { result ≡ read_block op }
     ensures placed { IfSome result HasOperand }
 {
     match op {
-        Transfer::Load => read_load(s),
-        Transfer::Store => read_store(s),
-        Transfer::LoadCoded => read_coded(s),
-        Transfer::Push => read_accu(Move::Push),
-        Transfer::Pop => read_accu(Move::Pop),
-        Transfer::Enter => read_accu(Move::Ent),
-        Transfer::Leave => read_accu(Move::Leave),
-        Transfer::Toggle => read_accu(Move::Tak),
-        Transfer::SwapWord => read_accu(Move::Caw),
-        Transfer::SwapDouble => read_accu(Move::Cad),
-        Transfer::Increment => read_count(false, s),
-        Transfer::Decrement => read_count(true, s),
-        Transfer::AddConstant => read_add(s),
-    }
-}
-
-fn read_arithmetic(op: Arithmetic) -> Instruction
-    ensures reads { result ≡ read_arithmetic op }
-    ensures placed { HasOperand result }
-{
-    match op {
-        Arithmetic::AddInt => Instruction::Number(NumberInstruction::Work(Num::AddI)),
-        Arithmetic::SubInt => Instruction::Number(NumberInstruction::Work(Num::SubI)),
-        Arithmetic::MulInt => Instruction::Number(NumberInstruction::Work(Num::MulI)),
-        Arithmetic::DivInt => Instruction::Number(NumberInstruction::Work(Num::DivI)),
-        Arithmetic::AddDouble => Instruction::Number(NumberInstruction::Work(Num::AddD)),
-        Arithmetic::SubDouble => Instruction::Number(NumberInstruction::Work(Num::SubD)),
-        Arithmetic::MulDouble => Instruction::Number(NumberInstruction::Work(Num::MulD)),
-        Arithmetic::DivDouble => Instruction::Number(NumberInstruction::Work(Num::DivD)),
-        Arithmetic::Modulo => Instruction::Number(NumberInstruction::Work(Num::ModD)),
-        Arithmetic::NegateInt => Instruction::Number(NumberInstruction::Work(Num::NegI)),
-        Arithmetic::NegateDouble => Instruction::Number(NumberInstruction::Work(Num::NegD)),
-        Arithmetic::InvertInt => Instruction::Accu(AccuInstruction::Move(Move::Invi)),
-        Arithmetic::InvertDouble => Instruction::Accu(AccuInstruction::Move(Move::Invd)),
-        Arithmetic::BcdToInt => Instruction::Number(NumberInstruction::FromBcd(false)),
-        Arithmetic::IntToBcd => Instruction::Number(NumberInstruction::ToBcd(false)),
-        Arithmetic::BcdToDouble => Instruction::Number(NumberInstruction::FromBcd(true)),
-        Arithmetic::DoubleToBcd => Instruction::Number(NumberInstruction::ToBcd(true)),
-        Arithmetic::IntToDouble => Instruction::Accu(AccuInstruction::Move(Move::Itd)),
-    }
-}
-
-fn read_comparison(op: Comparison) -> Instruction
-    ensures reads { result ≡ read_comparison op }
-    ensures placed { HasOperand result }
-{
-    match op {
-        Comparison::EqualInt => Instruction::Number(NumberInstruction::Compare(Cmp::Eq, false)),
-        Comparison::UnequalInt => Instruction::Number(NumberInstruction::Compare(Cmp::Ne, false)),
-        Comparison::GreaterInt => Instruction::Number(NumberInstruction::Compare(Cmp::Gt, false)),
-        Comparison::LessInt => Instruction::Number(NumberInstruction::Compare(Cmp::Lt, false)),
-        Comparison::GreaterEqualInt => Instruction::Number(NumberInstruction::Compare(
-            Cmp::Ge,
-            false,
-        )),
-        Comparison::LessEqualInt => Instruction::Number(NumberInstruction::Compare(Cmp::Le, false)),
-        Comparison::EqualDouble => Instruction::Number(NumberInstruction::Compare(Cmp::Eq, true)),
-        Comparison::UnequalDouble => Instruction::Number(NumberInstruction::Compare(Cmp::Ne, true)),
-        Comparison::GreaterDouble => Instruction::Number(NumberInstruction::Compare(Cmp::Gt, true)),
-        Comparison::LessDouble => Instruction::Number(NumberInstruction::Compare(Cmp::Lt, true)),
-        Comparison::GreaterEqualDouble => Instruction::Number(NumberInstruction::Compare(
-            Cmp::Ge,
-            true,
-        )),
-        Comparison::LessEqualDouble => Instruction::Number(NumberInstruction::Compare(
-            Cmp::Le,
-            true,
-        )),
-    }
-}
-
-fn read_word_logic(op: WordLogic, s: &Statement) -> Option<Instruction>
-    ensures reads { result ≡ read_word_logic op s.now }
-    ensures placed { IfSome result HasOperand }
-{
-    match op {
-        WordLogic::AndWord => read_logic(Word::And, false, s),
-        WordLogic::OrWord => read_logic(Word::Or, false, s),
-        WordLogic::XorWord => read_logic(Word::Xor, false, s),
-        WordLogic::AndDouble => read_logic(Word::And, true, s),
-        WordLogic::OrDouble => read_logic(Word::Or, true, s),
-        WordLogic::XorDouble => read_logic(Word::Xor, true, s),
-    }
-}
-
-fn read_shift_rotate(op: ShiftRotate, s: &Statement) -> Option<Instruction>
-    ensures reads { result ≡ read_shift_rotate op s.now }
-    ensures placed { IfSome result HasOperand }
-{
-    match op {
-        ShiftRotate::ShiftInt => read_shift(Shift::Ssi, s),
-        ShiftRotate::ShiftLeftWord => read_shift(Shift::Slw, s),
-        ShiftRotate::ShiftRightWord => read_shift(Shift::Srw, s),
-        ShiftRotate::ShiftDouble => read_shift(Shift::Ssd, s),
-        ShiftRotate::ShiftLeftDouble => read_shift(Shift::Sld, s),
-        ShiftRotate::ShiftRightDouble => read_shift(Shift::Srd, s),
-        ShiftRotate::RotateLeft => read_shift(Shift::Rld, s),
-        ShiftRotate::RotateRight => read_shift(Shift::Rrd, s),
-    }
-}
-
-fn read_branch(op: Branch, target: u32) -> JumpInstruction
-    ensures { result ≡ read_branch op target }
-{
-    match op {
-        Branch::Jl => JumpInstruction::List(target),
-        Branch::Ju => JumpInstruction::When(Jump::Ju, target),
-        Branch::Jc => JumpInstruction::When(Jump::Jc, target),
-        Branch::Jcn => JumpInstruction::When(Jump::Jcn, target),
-        Branch::Jcb => JumpInstruction::When(Jump::Jcb, target),
-        Branch::Jnb => JumpInstruction::When(Jump::Jnb, target),
-        Branch::Jbi => JumpInstruction::When(Jump::Jbi, target),
-        Branch::Jnbi => JumpInstruction::When(Jump::Jnbi, target),
-        Branch::Jo => JumpInstruction::When(Jump::Jo, target),
-        Branch::Jos => JumpInstruction::When(Jump::Jos, target),
-        Branch::Jz => JumpInstruction::When(Jump::Jz, target),
-        Branch::Jn => JumpInstruction::When(Jump::Jn, target),
-        Branch::Jp => JumpInstruction::When(Jump::Jp, target),
-        Branch::Jm => JumpInstruction::When(Jump::Jm, target),
-        Branch::Jpz => JumpInstruction::When(Jump::Jpz, target),
-        Branch::Jmz => JumpInstruction::When(Jump::Jmz, target),
-        Branch::Juo => JumpInstruction::When(Jump::Juo, target),
-        Branch::Loop => JumpInstruction::Loop(target),
-    }
-}
-
-fn read_timer_control(op: TimerControl, s: &Statement) -> Option<Instruction>
-    ensures reads { result ≡ read_timer_control op s.now }
-    ensures placed { IfSome result HasOperand }
-{
-    match op {
-        TimerControl::Sp => read_timed(TimedOperation::Start(TimerKind::Sp), s),
-        TimerControl::Se => read_timed(TimedOperation::Start(TimerKind::Se), s),
-        TimerControl::Sd => read_timed(TimedOperation::Start(TimerKind::Sd), s),
-        TimerControl::Ss => read_timed(TimedOperation::Start(TimerKind::Ss), s),
-        TimerControl::Sf => read_timed(TimedOperation::Start(TimerKind::Sf), s),
-        TimerControl::Fr => read_timer(TimerOperation::Enable, s),
-    }
-}
-
-fn read_counter_control(op: CounterControl, s: &Statement) -> Option<Instruction>
-    ensures reads { result ≡ read_counter_control op s.now }
-    ensures placed { IfSome result HasOperand }
-{
-    match op {
-        CounterControl::Cu => read_counter(CounterOperation::Up, s),
-        CounterControl::Cd => read_counter(CounterOperation::Down, s),
-        CounterControl::Fr => read_counter(CounterOperation::Enable, s),
-    }
-}
-
-fn read_block_control(op: BlockControl) -> Option<Instruction>
-    ensures reads { result ≡ read_block_control op }
-    ensures placed { IfSome result HasOperand }
-{
-    match op {
-        BlockControl::End | BlockControl::EndUnconditional => Some(Instruction::End),
-        BlockControl::EndConditional => Some(Instruction::EndWhenSet),
+        BlockOperation::End | BlockOperation::UnconditionalEnd => Some(Instruction::End),
+        BlockOperation::ConditionalEnd => Some(Instruction::EndWhenSet),
         _ => None,
     }
+}
+
+fn number(i: NumberInstruction) -> Option<Instruction>
+    ensures reads { result ≡ Some (groups.Number i) }
+    ensures placed { IfSome result HasOperand }
+{
+    Some(Instruction::Number(i))
+}
+
+fn jump(i: JumpInstruction) -> Option<Instruction>
+    ensures reads { result ≡ Some (groups.Jump i) }
+    ensures placed { IfSome result HasOperand }
+{
+    Some(Instruction::Jump(i))
 }
 
 fn read_operation(op: Operation, s: &Statement) -> Option<Instruction>
@@ -506,16 +357,37 @@ fn read_operation(op: Operation, s: &Statement) -> Option<Instruction>
     ensures placed { IfSome result HasOperand }
 {
     match op {
-        Operation::BitLogic(op) => read_bit_logic(op, s),
-        Operation::Transfer(op) => read_transfer(op, s),
-        Operation::Arithmetic(op) => Some(read_arithmetic(op)),
-        Operation::Comparison(op) => Some(read_comparison(op)),
-        Operation::WordLogic(op) => read_word_logic(op, s),
-        Operation::ShiftRotate(op) => read_shift_rotate(op, s),
-        Operation::Branch(op) => Some(Instruction::Jump(read_branch(op, s.value))),
-        Operation::TimerControl(op) => read_timer_control(op, s),
-        Operation::CounterControl(op) => read_counter_control(op, s),
-        Operation::BlockControl(op) => read_block_control(op),
+        Operation::Check(how) => read_check(how, s),
+        Operation::AndBeforeOr => Some(Instruction::Status(StatusInstruction::OrAlone)),
+        Operation::Open(how) => Some(Instruction::Group(GroupInstruction::Open(how))),
+        Operation::Close => Some(Instruction::Group(GroupInstruction::Close)),
+        Operation::Write(op) => read_write(op, s),
+        Operation::Rlo(op) => Some(Instruction::Status(read_rlo(op))),
+        Operation::Edge(Edge::Rising) => read_edge(true, s),
+        Operation::Edge(Edge::Falling) => read_edge(false, s),
+        Operation::MasterControl(op) => Some(Instruction::Group(read_master_control(op))),
+        Operation::Load => read_load(s),
+        Operation::Transfer => read_store(s),
+        Operation::LoadCoded => read_coded(s),
+        Operation::Move(op) => Some(Instruction::Accu(AccuInstruction::Move(op))),
+        Operation::Increment => read_count(false, s),
+        Operation::Decrement => read_count(true, s),
+        Operation::AddConstant => read_add(s),
+        Operation::Number(op) => number(NumberInstruction::Work(op)),
+        Operation::FromBcd(size) => number(NumberInstruction::FromBcd(size.is_wide())),
+        Operation::ToBcd(size) => number(NumberInstruction::ToBcd(size.is_wide())),
+        Operation::Compare(how, size) => number(NumberInstruction::Compare(how, size.is_wide())),
+        Operation::WordLogic(op, size) => read_logic(op, size.is_wide(), s),
+        Operation::Shift(op) => read_shift(op, s),
+        Operation::Jump(op) => jump(JumpInstruction::When(op, s.value)),
+        Operation::JumpList => jump(JumpInstruction::List(s.value)),
+        Operation::Loop => jump(JumpInstruction::Loop(s.value)),
+        Operation::StartTimer(kind) => read_timed(TimedOperation::Start(kind), s),
+        Operation::EnableTimer => read_timer(TimerOperation::Enable, s),
+        Operation::CountUp => read_counter(CounterOperation::Up, s),
+        Operation::CountDown => read_counter(CounterOperation::Down, s),
+        Operation::EnableCounter => read_counter(CounterOperation::Enable, s),
+        Operation::Block(op) => read_block(op),
         Operation::NoOperation(_) => Some(Instruction::Nothing),
     }
 }
