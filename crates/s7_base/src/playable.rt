@@ -11,9 +11,7 @@ fn is_call_operation(operation: Operation) -> bool
 {
     match operation {
         Operation::Block(
-            BlockOperation::End
-            | BlockOperation::ConditionalEnd
-            | BlockOperation::UnconditionalEnd,
+            BlockOperation::End | BlockOperation::ConditionalEnd | BlockOperation::UnconditionalEnd,
         ) => false,
         Operation::Block(_) => true,
         _ => false,
