@@ -6,7 +6,7 @@ use Rattle.s7_events.specs.declared.entry.Request.{Request}
 use Rattle.s7_events.specs.declared.entry.Answer.{Answer}
 use Rattle.s7_events.specs.declared.diagnostics.DiagCode.{DiagCode}
 use Rattle.s7_base.specs.Blocks.{Program}
-use Rattle.statement_effects.specs.declared.areas.Memory.{Memory}
+use Rattle.statement_effects.specs.State.{Memory}
 use Rattle.mc_machine.specs.declared.places.Note.{Note}
 use Rattle.mc_machine.specs.declared.places.Place.TheVariants.{AtOutputs, AtStop, Over}
 use Rattle.mc_machine.specs.declared.places.Frame.{Frame}

@@ -9,7 +9,7 @@ use Rattle.s7_events.specs.declared.diagnostics.Area.{Area}
 use Rattle.s7_events.specs.declared.diagnostics.Area.TheVariants.{I, Q, M, Db, Timers, Counters, Registers}
 use Rattle.s7_base.specs.declared.blocks.BlockRef.{BlockRef}
 use Rattle.s7_base.specs.Blocks.{Program}
-use Rattle.statement_effects.specs.declared.areas.Memory.{Memory}
+use Rattle.statement_effects.specs.State.{Memory}
 use Rattle.mc_machine.specs.declared.places.Level.{Level}
 use Rattle.mc_machine.specs.declared.places.Mode.{Mode}
 use Rattle.mc_machine.specs.declared.places.Place.{Place}

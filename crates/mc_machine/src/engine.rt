@@ -320,8 +320,8 @@ impl Engine {
         ensures sound { IsSound (config_of self.new) }
         ensures waits { self.new.waits ≡ self.old.waits }
     {
-        self.memory.inputs = image;
-        self.memory.registers = Registers::clear();
+        self.memory.set_inputs(image);
+        self.memory.set_registers(Registers::clear());
         self.frames.push(Frame {
             place: Place::AtCycle,
             kept: Registers::clear(),
@@ -336,7 +336,7 @@ impl Engine {
         ensures sound { IsSound (config_of self.new) }
     {
         match self.place {
-            Place::AtOutputs => Some(request(Ask::Outputs(self.memory.outputs), 1)),
+            Place::AtOutputs => Some(request(Ask::Outputs(self.memory.outputs()), 1)),
             Place::AtInputs => Some(request(Ask::Inputs, 1)),
             Place::AtCycle => Some(request(Ask::Cycle, 1)),
             Place::AtStop(code) => Some(stop_request(code)),
@@ -410,6 +410,6 @@ impl Engine {
             unreachable!()
         };
         self.place = frame.place;
-        self.memory.registers = frame.kept;
+        self.memory.set_registers(frame.kept);
     }
 }

@@ -7,7 +7,7 @@ use Rattle.bit_unit.specs.declared.unit.BitFault.{BitFault}
 use Rattle.bit_unit.specs.declared.unit.BitFault.TheVariants.{NestingFull, NestingEmpty, McrFull, McrEmpty}
 use Rattle.bit_unit.specs.Steps.{Step, group_opened, group_closed, zone_opened, zone_closed}
 use Rattle.statement_effects.specs.declared.areas.Registers.{Registers}
-use Rattle.statement_effects.specs.declared.areas.Memory.{Memory}
+use Rattle.statement_effects.specs.State.{Memory}
 use Rattle.statement_effects.specs.declared.instruction.BitPlace.{BitPlace}
 use Rattle.statement_effects.specs.declared.instruction.BitInstruction.{BitInstruction}
 use Rattle.statement_effects.specs.declared.instruction.BitInstruction.TheVariants as bits

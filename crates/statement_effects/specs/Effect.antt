@@ -2,7 +2,7 @@
 use Rattle.std.specs.Prelude.{ℕ, Option, Some, None, Result, Ok, Err}
 use Rattle.s7_base.specs.declared.statement.Statement.{Statement}
 use Rattle.statement_effects.specs.declared.areas.Registers.{Registers}
-use Rattle.statement_effects.specs.declared.areas.Memory.{Memory}
+use Rattle.statement_effects.specs.State.{Memory}
 use Rattle.statement_effects.specs.declared.instruction.Instruction.{Instruction}
 use Rattle.statement_effects.specs.declared.instruction.Instruction.TheVariants as groups
 use Rattle.statement_effects.specs.declared.instruction.Flow.{Flow}

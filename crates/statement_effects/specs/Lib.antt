@@ -10,4 +10,5 @@ pub mod Placed
 pub mod Played
 pub mod Reading
 pub mod Resolving
+pub mod State
 pub mod TimerEffect

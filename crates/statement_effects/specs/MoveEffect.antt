@@ -3,7 +3,7 @@ use Rattle.std.specs.Prelude.{ℕ, ◌%◌, ◌^◌, if◌then◌else◌}
 use Rattle.status_word.specs.Status.{bits_of, status_of}
 use Rattle.accumulators.specs.declared.accus.Accus.{Accus}
 use Rattle.accumulators.specs.Moves.{loaded, moved, constant_added, byte_counted}
-use Rattle.statement_effects.specs.declared.areas.Memory.{Memory}
+use Rattle.statement_effects.specs.State.{Memory}
 use Rattle.statement_effects.specs.declared.instruction.MoveInstruction.{MoveInstruction}
 use Rattle.statement_effects.specs.declared.instruction.MoveInstruction.TheVariants.{Load, Store}
 use Rattle.statement_effects.specs.declared.instruction.DirectInstruction.{DirectInstruction}

@@ -1,7 +1,7 @@
 -- Where the operand of a statement lies, over what the statements see, found before the statement does anything. An operand
 -- that lies nowhere is an error, with its number. Finding an operand may change what the statements see.
 use Rattle.std.specs.Prelude.{ℕ, Result, Ok, Err}
-use Rattle.statement_effects.specs.declared.areas.Memory.{Memory}
+use Rattle.statement_effects.specs.State.{Memory}
 use Rattle.statement_effects.specs.declared.instruction.BitPlace.{BitPlace}
 use Rattle.statement_effects.specs.declared.instruction.ValuePlace.{ValuePlace}
 use Rattle.statement_effects.specs.declared.instruction.BitOperand.{BitOperand}

@@ -6,7 +6,7 @@ use Rattle.s5_time.specs.Duration.{duration_of, word_of}
 use Rattle.instruction_set.specs.declared.operation.TimerKind.{TimerKind}
 use Rattle.timers.specs.Rule.{output, rest, starts, started, reset, enabled}
 use Rattle.timers.specs.State.{TimerState, fresh}
-use Rattle.statement_effects.specs.declared.areas.Memory.{Memory}
+use Rattle.statement_effects.specs.State.{Memory}
 use Rattle.statement_effects.specs.declared.instruction.TimerOperation.{TimerOperation}
 use Rattle.statement_effects.specs.declared.instruction.TimerOperation.TheVariants as plain
 use Rattle.statement_effects.specs.declared.instruction.TimedOperation.{TimedOperation}

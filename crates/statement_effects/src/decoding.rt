@@ -6,7 +6,9 @@ ghost use Rattle.statement_effects.specs.Decoding.{width_of, bit_operand, value_
 ghost use Rattle.statement_effects.specs.Placed.{IsOperand};
 ghost use Rattle.statement_effects.specs.declared.instruction.Operand.TheVariants as operands;
 
-use crate::instruction::{BitOperand, BitPlace, ByteArea, Operand, ValueOperand, ValuePlace, Width};
+use crate::instruction::{
+    BitOperand, BitPlace, ByteArea, Operand, ValueOperand, ValuePlace, Width,
+};
 use instruction_set::OperandArea;
 use s7_base::Statement;
 

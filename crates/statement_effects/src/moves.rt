@@ -120,7 +120,11 @@ impl Memory {
     ///
     /// # Errors
     /// The number of the error of a value that is nowhere. Nothing changes.
-    pub(crate) fn execute_move(&mut self, i: MoveInstruction, operand: ValueOperand) -> Result<(), u8>
+    pub(crate) fn execute_move(
+        &mut self,
+        i: MoveInstruction,
+        operand: ValueOperand,
+    ) -> Result<(), u8>
         requires { IsValueOperand operand }
         ensures ok { OnOk result (at_value (effect_move i) (resolve_value operand self.old) ≡ Ok self.new) }
         ensures err { IfErr result (λ error. at_value (effect_move i) (resolve_value operand self.old) ≡ Err error) }

@@ -122,7 +122,9 @@ fn with_word(op: Operation, word: u16) -> Option<Instruction>
 {
     let by = (word % 256) as u8;
     match op {
-        Operation::Load => Some(Instruction::Direct(DirectInstruction::LoadConstant(u32::from(word)))),
+        Operation::Load => Some(Instruction::Direct(DirectInstruction::LoadConstant(u32::from(
+            word,
+        )))),
         Operation::Increment => Some(Instruction::Accu(AccuInstruction::Count { by, down: false })),
         Operation::Decrement => Some(Instruction::Accu(AccuInstruction::Count { by, down: true })),
         Operation::AddConstant => {
@@ -203,7 +205,9 @@ fn alone(op: Operation) -> Option<Instruction>
         Operation::FromBcd(size) => {
             Some(Instruction::Number(NumberInstruction::FromBcd(size.is_wide())))
         }
-        Operation::ToBcd(size) => Some(Instruction::Number(NumberInstruction::ToBcd(size.is_wide()))),
+        Operation::ToBcd(size) => Some(Instruction::Number(NumberInstruction::ToBcd(
+            size.is_wide(),
+        ))),
         Operation::Compare(how, size) => {
             Some(Instruction::Number(NumberInstruction::Compare(how, size.is_wide())))
         }
