@@ -37,7 +37,11 @@ moves_on m rest s a on (Calls memory p f) =
 
 reacts_on : (m : Meaning) (rest : Rest) (s : State) (a : List Answer) → GoesOn m → (v : Reaction) → reacts m rest s a v ≡ then_do (reacts m Left s a v) rest
 reacts_on m rest s a on (Again n v) = moves_on m rest (noting s n) a on v
-reacts_on m rest s a on (Completes n v) = moves_on m rest (completed (noting s n)) a on v
+reacts_on m rest s a on (Completes (Moves n v)) = moves_on m rest (completed (noting s n)) a on v
+reacts_on m rest s a on (Completes (Halts n memory code)) = on.at (AtStop code) rest (completed (noting (record s { memory = memory }) n)) a
+reacts_on m rest s a on (Completes (Asks r)) = refl
+reacts_on m rest s a on (Completes Leaves) = refl
+reacts_on m rest s a on (Completes Ends) = refl
 
 if_fits : (b : Bool) (rest : Rest) (e f : End) → e ≡ then_do f rest → (if b then e else Undefined) ≡ then_do (if b then f else Undefined) rest
 if_fits true rest e f h = h
@@ -50,9 +54,9 @@ asking_on m here r rest s (x ∷ a) on =
 
 does_on : (m : Meaning) (here : Place) (rest : Rest) (s : State) (a : List Answer) → GoesOn m → (t : Turn) → does m here rest s a t ≡ then_do (does m here Left s a t) rest
 does_on m here rest s a on (Asks r) = asking_on m here r rest s a on
-does_on m here rest s a on (Moves v) = moves_on m rest (completed s) a on v
+does_on m here rest s a on (Moves n v) = moves_on m rest (completed (noting s n)) a on v
 does_on m here rest s a on (Halts note memory code) =
-    asking_on m (AtStop code) (stop_request code) rest (noting (record s { memory = memory }) (Some note)) a on
+    asking_on m (AtStop code) (stop_request code) rest (noting (record s { memory = memory }) note) a on
 does_on m here rest s a on Leaves = refl
 does_on m here rest s a on Ends = refl
 

@@ -1,5 +1,5 @@
 -- What it means that a machine stands for a program and the answers that it has taken.
-use Rattle.std.specs.Prelude.{◌≡◌, ◌≢◌, ℕ, suc, ◌+◌, ◌-◌, ◌*◌, false, List, [], ◌∷◌, ◌++◌, length, drop, Option, Some, None, IfSome, IsTrue, is_some, slice_get, flat_map}
+use Rattle.std.specs.Prelude.{◌≡◌, ◌≢◌, ℕ, suc, ◌+◌, ◌-◌, ◌*◌, false, List, [], ◌∷◌, ◌++◌, length, drop, Option, Some, None, IfSome, IsTrue, is_some, if◌then◌else◌, slice_get, flat_map}
 use Rattle.s7_events.specs.declared.entry.Ask.{Ask}
 use Rattle.s7_events.specs.declared.entry.Ask.TheVariants as asks
 use Rattle.s7_events.specs.declared.entry.Request.{Request}
@@ -20,7 +20,7 @@ use Rattle.timers.specs.Bytes as timer_form
 use Rattle.counters.specs.Bytes as counter_form
 use Rattle.statement_effects.specs.Areas.{with_registers}
 use Rattle.statement_effects.specs.CounterEffect.{counter_at}
-use Rattle.mc_machine.specs.Meaning.{State, End, Waits, Stopped, Rest, Move, Goes, Calls, Reaction, Again, Completes, Turn, Asks, Moves, Halts, Leaves, Ends, stop_request, resume, body, takes, is_dated, stops_cpu, turn_of, never, std}
+use Rattle.mc_machine.specs.Meaning.{State, End, Waits, Stopped, Rest, Move, Goes, Calls, Reaction, Again, Completes, Turn, Asks, Moves, Halts, Leaves, Ends, stop_request, at_block_end, resume, body, takes, is_dated, stops_cpu, turn_of, never, std}
 
 -- where a machine is: its program, its place, the frames under it, what the statements see, the statements completed
 -- since the last answer, the moment of that answer, and the diagnostic entries that it keeps
@@ -66,27 +66,41 @@ abbrev pub IsMoved : Move → Config → ℕ → ℕ → Option DiagCode → Con
 IsMoved (Goes memory place) c since at note c' = c' ≡ record { program = c.program; place = place; frames = c.frames; memory = memory; since = since; at = at; diag = with_newest c.diag at note }
 IsMoved (Calls memory place frame) c since at note c' = c' ≡ record { program = c.program; place = place; frames = c.frames ++ frame ∷ []; memory = memory; since = since; at = at; diag = with_newest c.diag at note }
 
+-- the machine is where a turn leads that moves or halts, with so many statements completed
+abbrev pub IsTurned : Turn → Config → ℕ → ℕ → Config → Type 0
+IsTurned (Moves note move) c since at c' = IsMoved move c since at note c'
+IsTurned (Halts note memory code) c since at c' = IsMoved (Goes memory (AtStop code)) c since at note c'
+IsTurned (Asks request) c since at c' = ⊥
+IsTurned Leaves c since at c' = ⊥
+IsTurned Ends c since at c' = ⊥
+
+-- the request of a turn that halts
+abbrev pub halts_with : Turn → Option Request
+halts_with (Halts _ _ code) = Some (stop_request code)
+halts_with _ = None
+
 -- the machine has taken an answer at this moment
 abbrev pub Reacts : Reaction → Config → ℕ → Config → Type 0
 Reacts (Again note move) c moment c' = IsMoved move c 0 moment note c'
-Reacts (Completes note move) c moment c' = IsMoved move c 1 moment note c'
+Reacts (Completes turn) c moment c' = IsTurned turn c 1 moment c'
 
 -- the machine has taken a turn, or asks
 abbrev pub Follows : Turn → Config → Option Request → Config → Type 0
 Follows (Asks request) c asked c' = (asked ≡ Some request) × (c' ≡ c)
-Follows (Moves move) c asked c' = (asked ≡ None) × IsMoved move c (c.since + 1) c.at None c'
-Follows (Halts note memory code) c asked c' = (asked ≡ Some (stop_request code)) × (c' ≡ record { program = c.program; place = AtStop code; frames = c.frames; memory = memory; since = c.since; at = c.at; diag = with_newest c.diag c.at (Some note) })
-Follows Leaves c asked c' = (asked ≡ None) × (frame : Frame) × (c.frames ≡ c'.frames ++ frame ∷ []) × (c' ≡ record { program = c.program; place = frame.place; frames = c'.frames; memory = with_registers c.memory frame.kept; since = c.since; at = c.at; diag = c.diag })
+Follows (Moves note move) c asked c' = (asked ≡ None) × IsMoved move c (c.since + 1) c.at note c'
+Follows (Halts note memory code) c asked c' = (asked ≡ Some (stop_request code)) × IsMoved (Goes memory (AtStop code)) c c.since c.at note c'
+Follows Leaves c asked c' = (asked ≡ None) × (frame : Frame) × (c.frames ≡ c'.frames ++ frame ∷ []) × (c' ≡ record { program = c.program; place = frame.place; frames = c'.frames; memory = with_registers (at_block_end c.memory) frame.kept; since = c.since; at = c.at; diag = c.diag })
 Follows Ends c asked c' = ⊥
 
--- how many frames may lie under a place that runs: a block has one under it, that of the cycle
+-- how many frames lie under a place: a block has one under it, that of the cycle, and an error OB has that of the block
+-- that failed too
 abbrev pub IsHigh : ℕ → Place → Type 0
 IsHigh n AtOutputs = n ≡ 0
 IsHigh n AtInputs = n ≡ 0
 IsHigh n AtCycle = n ≡ 0
 IsHigh n (AtStop code) = Unit {0}
 IsHigh n Over = ⊥
-IsHigh n (At block at level mode) = n ≡ 1
+IsHigh n (At block at level mode) = n ≡ (if level.in_error then 2 else 1)
 
 -- each frame has as many under it as its place may have
 abbrev pub AreStacked : ℕ → List Frame → Type 0

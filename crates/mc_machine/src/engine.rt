@@ -1,25 +1,33 @@
 //! What a running machine holds: it runs from request to request.
-ghost use Rattle.std.specs.Prelude.{◌≡◌, ◌≢◌, ℕ, ◌+◌, ◌-◌, ◌<◌, ◌≤◌, ◌++◌, ◌∷◌, [], List, length, slice_get, IsTrue, IfSome, OnSome, ◌^◌, false, Option, Some, None};
+ghost use Rattle.std.specs.Prelude.{◌≡◌, ◌≢◌, ℕ, ◌+◌, ◌-◌, ◌<◌, ◌≤◌, ◌++◌, ◌∷◌, [], List, length, slice_get, IsTrue, IfSome, OnSome, ◌^◌, true, false, Option, Some, None};
 ghost use Rattle.s7_base.specs.Blocks.{Program};
 ghost use Rattle.s7_events.specs.declared.entry.Answer.{Answer};
 ghost use Rattle.s7_base.specs.declared.blocks.BlockRef.{BlockRef};
-ghost use Rattle.mc_machine.specs.Meaning.{statements_of, turn_of, runs, flows, jump_among, answered, takes, stops_cpu, begins_main, main_block, level_of, cycle_frame, lost_note, again_mode, again, resumed, timed_at, instruction_at, Leaves, Waits, Stopped, std, request_of, stop_request};
-ghost use Rattle.mc_machine.specs.Stands.{Running, state_of, newest, with_newest, StandsFor, IsMoved, Reacts, Follows, IsHigh, IsSound, IsValid, IsAskedAt, AsksAt, Keeps, IsTaken, IsDated, IsAsked, GoesOn};
+ghost use Rattle.mc_machine.specs.Meaning.{statements_of, local_bytes_of, level_of, entered, error_ob, no_error_ob, error_level, error_registers, fails, turn_of, runs, flows, jump_among, answered, takes, stops_cpu, begins_main, main_block, cycle_frame, lost_note, again_mode, again, resumed, timed_at, instruction_at, Leaves, Waits, Stopped, std, request_of, stop_request};
+ghost use Rattle.mc_machine.specs.Stands.{Running, state_of, newest, with_newest, StandsFor, IsMoved, IsTurned, halts_with, Reacts, Follows, IsHigh, IsSound, IsValid, IsAskedAt, AsksAt, Keeps, IsTaken, IsDated, IsAsked, GoesOn};
 ghost use Rattle.s7_events.specs.declared.entry.Ask.{Ask};
+ghost use Rattle.statement_effects.specs.Areas.{with_registers};
 ghost use Rattle.mc_machine.specs.EngineView.{config_of, running_of};
 
 use crate::{Frame, Level, Mode, Note, Place};
 use arrayvec::ArrayVec;
 use s7_base::{
-    Answer, Ask, BlockRef, Blocks, CodeKind, DiagCode, Loss, Request, Side, Statement, StopCode,
+    Answer, Ask, BlockRef, Blocks, CodeBlock, CodeKind, DiagCode, Loss, Request, Side, Statement,
+    StopCode,
 };
 use statement_effects::{Flow, Instruction, Memory, Registers, instruction_of};
 
 /// How many diagnostic entries are kept.
 const KEPT_NOTES: usize = 120;
 
-/// How many frames there are: that of the cycle, under OB1.
-const FRAMES: usize = 1;
+/// How many frames there are: that of the cycle, under OB1, and that of OB1 under its error OB.
+const FRAMES: usize = 2;
+
+/// How many blocks may have begun on a level.
+const DEPTH: u8 = 24;
+
+/// How many local bytes the blocks of a level may have together.
+const LOCAL_BYTES: u32 = 256;
 
 /// The place of a machine, what its statements see, and the frames under it.
 #[derive(Debug, Drop)]
@@ -79,6 +87,108 @@ fn jump_among(at: usize, number: u8, target: u32) -> usize
 {
     let chosen = (at + 1).saturating_add(number as usize);
     chosen.min(target as usize)
+}
+
+/// The local bytes of a code block.
+fn local_bytes(code: &CodeBlock) -> u16
+    ensures { result ≡ local_bytes_of code.now }
+{
+    let temp = code.temp();
+    match code.kind() {
+        CodeKind::Ob => {
+            if temp < 20 {
+                20
+            } else {
+                temp
+            }
+        }
+        CodeKind::Fb | CodeKind::Fc => temp,
+    }
+}
+
+/// The level on which OB1 begins.
+fn main_level(program: &Blocks) -> Level
+    ensures { result ≡ level_of program.now 1 }
+{
+    let local_bytes = match program.code(CodeKind::Ob, 1) {
+        Some(code) => local_bytes(code),
+        None => 0,
+    };
+    Level {
+        priority: 1,
+        depth: 1,
+        local_bytes,
+        in_error: false,
+    }
+}
+
+/// The level where a block of so many local bytes begins on it.
+fn entered(level: Level, bytes: u16) -> Result<Level, StopCode>
+    ensures { result ≡ entered level bytes }
+{
+    if level.depth >= DEPTH {
+        return Err(StopCode::Depth);
+    }
+    let local_bytes = u32::from(level.local_bytes) + u32::from(bytes);
+    if local_bytes > LOCAL_BYTES {
+        return Err(StopCode::Local);
+    }
+    Ok(Level {
+        priority: level.priority,
+        depth: level.depth + 1,
+        local_bytes: local_bytes as u16,
+        in_error: level.in_error,
+    })
+}
+
+/// The number of the OB of an error.
+fn error_ob(error: u8) -> u8
+    ensures { result ≡ error_ob error }
+{
+    if error == 9 {
+        122
+    } else {
+        121
+    }
+}
+
+/// The stop where the OB of an error is not loaded.
+fn no_error_ob(error: u8) -> StopCode
+    ensures { result ≡ no_error_ob error }
+{
+    if error == 9 {
+        StopCode::NoOb122
+    } else {
+        StopCode::NoOb121
+    }
+}
+
+/// The level on which the OB of an error begins, or the stop where it cannot.
+fn error_level(program: &Blocks, level: Level, error: u8) -> Result<Level, StopCode>
+    ensures { result ≡ error_level program.now level error }
+{
+    if level.in_error {
+        return Err(StopCode::InError);
+    }
+    let Some(code) = program.code(CodeKind::Ob, error_ob(error)) else {
+        return Err(no_error_ob(error));
+    };
+    let inside = Level {
+        priority: level.priority,
+        depth: level.depth,
+        local_bytes: level.local_bytes,
+        in_error: true,
+    };
+    entered(inside, local_bytes(code))
+}
+
+/// The registers with which an error OB begins.
+fn error_registers(registers: &Registers) -> Registers
+    ensures { result ≡ error_registers registers.now }
+{
+    let mut inside = Registers::clear();
+    inside.accus = registers.accus;
+    inside
 }
 
 fn lost_code(side: Side, why: Loss) -> DiagCode
@@ -280,13 +390,12 @@ impl Engine {
             return;
         };
         match self.memory.execute_timed(op, n, moment) {
-            Ok(()) => self.place = Place::At(block, at + 1, level, Mode::Fresh),
-            Err(error) => {
-                self.note(DiagCode::Error(error));
-                self.place = Place::AtStop(StopCode::NoOb121);
+            Ok(()) => {
+                self.place = Place::At(block, at + 1, level, Mode::Fresh);
+                self.since = 1;
             }
+            Err(error) => self.fail_answered(error, block, at, level),
         }
-        self.since = 1;
     }
 
     /// The CPU stops.
@@ -316,7 +425,7 @@ impl Engine {
     fn begin_main(&mut self, image: [u8; 64])
         requires sound { IsSound (config_of self.old) }
         requires here { self.old.place ≡ Place.AtInputs }
-        ensures moved { IsMoved (begins_main self.old.memory image) (config_of self.old) self.old.since self.old.at None (config_of self.new) }
+        ensures moved { IsMoved (begins_main self.old.program self.old.memory image) (config_of self.old) self.old.since self.old.at None (config_of self.new) }
         ensures sound { IsSound (config_of self.new) }
         ensures waits { self.new.waits ≡ self.old.waits }
     {
@@ -326,7 +435,7 @@ impl Engine {
             place: Place::AtCycle,
             kept: Registers::clear(),
         });
-        self.place = Place::At(MAIN, 0, Level { priority: 1 }, Mode::Fresh);
+        self.place = Place::At(MAIN, 0, main_level(&self.program), Mode::Fresh);
     }
 
     /// One turn: a statement, the end of a block, or the request that the place asks.
@@ -379,7 +488,7 @@ impl Engine {
             Flow::Jump(target) => target as usize,
             Flow::Among { number, target } => jump_among(at, number, target),
             Flow::End => end_of(&self.program, block),
-            Flow::Fail(error) => return Some(self.fail(error)),
+            Flow::Fail(error) => return self.fail_statement(error, block, at, level),
             Flow::AskNow => return Some(request(Ask::Now, level.priority)),
         };
         self.place = Place::At(block, next, level, Mode::Fresh);
@@ -387,16 +496,87 @@ impl Engine {
         None
     }
 
-    /// An error finds no OB121: the CPU asks to stop.
-    fn fail(&mut self, error: u8) -> Request
-        requires { IsSound (config_of self.old) }
-        ensures halted { config_of self.new ≡ record (config_of self.old) { place = Place.AtStop StopCode.NoOb121; diag = with_newest self.old.diag.items self.old.at (Some (DiagCode.Error error)) } }
-        ensures asks { result ≡ stop_request StopCode.NoOb121 }
+    /// A statement failed: a diagnostic entry is made, and its error OB begins, or the CPU asks to stop. How many
+    /// statements were completed is left as it was.
+    fn fail(&mut self, error: u8, block: BlockRef, at: usize, level: Level) -> Option<Request>
+        requires sound { IsSound (config_of self.old) }
+        requires here { IsHigh (length self.old.frames.items) (Place.At block at level Mode.Fresh) }
+        requires within { at + 1 < 2 ^ 64 }
+        ensures failed { IsTurned (fails self.old.program (Place.At block (at + 1) level Mode.Fresh) level self.old.memory error) (config_of self.old) self.old.since self.old.at (config_of self.new) }
+        ensures asks { result ≡ halts_with (fails self.old.program (Place.At block (at + 1) level Mode.Fresh) level self.old.memory error) }
+        ensures sound { IsSound (config_of self.new) }
+        ensures going { self.new.place ≢ Place.Over }
+        ensures waits { self.new.waits ≡ self.old.waits }
+    {
+        let inside = error_level(&self.program, level, error);
+        self.note(DiagCode::Error(error));
+        match inside {
+            Ok(inside) => {
+                let next = Place::At(block, at + 1, level, Mode::Fresh);
+                self.begin_error_ob(error, inside, next);
+                None
+            }
+            Err(code) => {
+                self.place = Place::AtStop(code);
+                Some(stop_request(code))
+            }
+        }
+    }
+
+    /// An error OB begins; at its end the place goes on.
+    fn begin_error_ob(&mut self, error: u8, level: Level, next: Place)
+        requires sound { IsSound (config_of self.old) }
+        requires one { length self.old.frames.items ≡ 1 }
+        requires under { IsHigh 1 next }
+        requires inside { level.in_error ≡ true }
+        ensures moved { config_of self.new ≡ record (config_of self.old) {
+            place = Place.At (record { kind = CodeKind.Ob; number = error_ob error }) 0 level Mode.Fresh;
+            frames = self.old.frames.items ++ record { place = next; kept = self.old.memory.registers } ∷ [];
+            memory = with_registers self.old.memory (error_registers self.old.memory.registers) } }
+        ensures sound { IsSound (config_of self.new) }
+        ensures waits { self.new.waits ≡ self.old.waits }
+    {
+        let kept = self.memory.registers;
+        self.memory.registers = error_registers(&kept);
+        self.frames.push(Frame { place: next, kept });
+        let block = BlockRef {
+            kind: CodeKind::Ob,
+            number: error_ob(error),
+        };
+        self.place = Place::At(block, 0, level, Mode::Fresh);
+    }
+
+    /// A statement fails. It is completed where its error OB begins.
+    #[tactic(auto, using(crate::proofs::Sound::turned_moves, crate::proofs::Sound::turned_halts))]
+    fn fail_statement(&mut self, error: u8, block: BlockRef, at: usize, level: Level) -> Option<Request>
+        requires sound { IsSound (config_of self.old) }
+        requires here { IsHigh (length self.old.frames.items) (Place.At block at level Mode.Fresh) }
+        requires before { self.old.since < 256 }
+        requires within { at + 1 < 2 ^ 64 }
+        ensures turned { Follows (fails self.old.program (Place.At block (at + 1) level Mode.Fresh) level self.old.memory error) (config_of self.old) result (config_of self.new) }
         ensures sound { IsSound (config_of self.new) }
     {
-        self.note(DiagCode::Error(error));
-        self.place = Place::AtStop(StopCode::NoOb121);
-        stop_request(StopCode::NoOb121)
+        match self.fail(error, block, at, level) {
+            Some(request) => Some(request),
+            None => {
+                self.since += 1;
+                None
+            }
+        }
+    }
+
+    /// A statement that asked is completed by its answer, and fails.
+    fn fail_answered(&mut self, error: u8, block: BlockRef, at: usize, level: Level)
+        requires sound { IsSound (config_of self.old) }
+        requires here { IsHigh (length self.old.frames.items) (Place.At block at level Mode.Fresh) }
+        requires within { at + 1 < 2 ^ 64 }
+        ensures turned { IsTurned (fails self.old.program (Place.At block (at + 1) level Mode.Fresh) level self.old.memory error) (config_of self.old) 1 self.old.at (config_of self.new) }
+        ensures sound { IsSound (config_of self.new) }
+        ensures going { self.new.place ≢ Place.Over }
+        ensures waits { self.new.waits ≡ self.old.waits }
+    {
+        let _ = self.fail(error, block, at, level);
+        self.since = 1;
     }
 
     /// The end of a block: the frame under it goes on.
@@ -409,6 +589,7 @@ impl Engine {
         let Some(frame) = self.frames.pop() else {
             unreachable!()
         };
+        self.memory.registers.status.after_block();
         self.place = frame.place;
         self.memory.registers = frame.kept;
     }

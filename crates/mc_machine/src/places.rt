@@ -3,10 +3,14 @@
 use s7_base::{BlockRef, DiagCode, StopCode};
 use statement_effects::Registers;
 
-/// The level that a block runs on.
+/// The level that a block runs on: its priority, how many blocks have begun on it and have not ended, the local bytes
+/// that these have together, and whether one of them is an error OB.
 #[derive(Clone, Copy, Debug, PartialEq, Eq)]
 pub struct Level {
     pub priority: u8,
+    pub depth: u8,
+    pub local_bytes: u16,
+    pub in_error: bool,
 }
 
 /// Whether a block comes to its statement anew, or makes again a request that was not ended.

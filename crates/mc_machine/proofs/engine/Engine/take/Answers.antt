@@ -1,6 +1,6 @@
 -- The CPU has one answer more.
 use Rattle.std.proofs.Common.{◌≡◌, ℕ, subst, IfSome, Some}
-use Rattle.mc_machine.specs.Meaning.{Reaction, Again, Completes, Goes, Calls, answered}
+use Rattle.mc_machine.specs.Meaning.{Reaction, Again, Completes, Turn, Asks, Moves, Halts, Leaves, Ends, Goes, Calls, answered}
 use Rattle.mc_machine.specs.Stands.{Config, AsksAt, IsTaken, Reacts}
 use Rattle.mc_machine.specs.EngineView.{config_of}
 use Rattle.mc_machine.proofs.Keeps.{stands_take}
@@ -11,8 +11,12 @@ use Rattle.mc_machine.proofs.engine.Engine.take.Goals as goal
 rebased : (v : Reaction) (c c' : Config) (since at moment : ℕ) → Reacts v (record c { since = since; at = at }) moment c' → Reacts v c moment c'
 rebased (Again note (Goes memory place)) c c' since at moment e = e
 rebased (Again note (Calls memory place frame)) c c' since at moment e = e
-rebased (Completes note (Goes memory place)) c c' since at moment e = e
-rebased (Completes note (Calls memory place frame)) c c' since at moment e = e
+rebased (Completes (Moves note (Goes memory place))) c c' since at moment e = e
+rebased (Completes (Moves note (Calls memory place frame))) c c' since at moment e = e
+rebased (Completes (Halts note memory code)) c c' since at moment e = e
+rebased (Completes (Asks r)) c c' since at moment e = absurd e
+rebased (Completes Leaves) c c' since at moment e = absurd e
+rebased (Completes Ends) c c' since at moment e = absurd e
 
 pub returns-clause-stands : goal.returns-clause-stands
 returns-clause-stands c program given at dated stands =
