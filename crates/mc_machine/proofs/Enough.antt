@@ -9,10 +9,7 @@ use Rattle.s7_events.specs.declared.entry.Answer.{Answer}
 use Rattle.s7_events.specs.declared.entry.StopCode.{StopCode}
 use Rattle.s7_base.specs.Blocks.{Program}
 use Rattle.statement_effects.specs.declared.areas.Memory.{Memory}
-use Rattle.mc_machine.specs.declared.places.Level.{Level}
-use Rattle.mc_machine.specs.declared.places.Mode.TheVariants.{Fresh, Ticking, Timing}
-use Rattle.mc_machine.specs.declared.places.Place.{Place}
-use Rattle.mc_machine.specs.declared.places.Place.TheVariants.{AtOutputs, AtInputs, AtCycle, AtStop, Over, At}
+use Rattle.mc_machine.specs.Places.{Level, Fresh, Ticking, Timing, Place, AtOutputs, AtInputs, AtCycle, AtStop, Over, At}
 use Rattle.statement_effects.specs.declared.instruction.Flow.{Flow}
 use Rattle.statement_effects.specs.declared.instruction.Flow.TheVariants as flow
 use Rattle.statement_effects.specs.Areas.{with_registers}
@@ -50,7 +47,7 @@ reacts_same m m' rest rest' b s a lt same agree (Completes Ends) = refl
 asking_same : (m m' : Meaning) (here : Place) (r : Request) (rest rest' : Rest) (s : State) (a : List Answer) (b : ℕ) → left s a ≡ b → Same m m' b → Agree rest rest' b → asking m here r rest s a ≡ asking m' here r rest' s a
 asking_same m m' here r rest rest' s [] b e same agree = refl
 asking_same m m' here r rest rest' s (x ∷ a) b e same agree =
-    ap (λ v. if takes_at s.taken r x then v else Undefined) (reacts_same m m' rest rest' b (took s) a (omega arith) same agree (answered s.program s.memory here r.ask x))
+    ap (λ v. if takes_at s.taken r x then v else Undefined) (reacts_same m m' rest rest' b (took s r.ask x) a (omega arith) same agree (answered s.program s.memory here r.ask x))
 
 -- a turn that completes a statement comes before the 256th
 abbrev pub Counts : Turn → ℕ → Type 0

@@ -10,11 +10,7 @@ use Rattle.s7_events.specs.declared.entry.Request.{Request}
 use Rattle.s7_events.specs.declared.entry.StopCode.{StopCode}
 use Rattle.s7_base.specs.Blocks.{Program}
 use Rattle.statement_effects.specs.declared.areas.Memory.{Memory}
-use Rattle.mc_machine.specs.declared.places.Level.{Level}
-use Rattle.mc_machine.specs.declared.places.Mode.TheVariants.{Fresh, Ticking, Timing}
-use Rattle.mc_machine.specs.declared.places.Place.{Place}
-use Rattle.mc_machine.specs.declared.places.Place.TheVariants.{AtOutputs, AtInputs, AtCycle, AtStop, Over, At}
-use Rattle.mc_machine.specs.declared.places.Frame.{Frame}
+use Rattle.mc_machine.specs.Places.{Level, Mode, Fresh, Ticking, Timing, Place, AtOutputs, AtInputs, AtCycle, AtStop, Over, At, Frame}
 use Rattle.statement_effects.specs.declared.instruction.Flow.{Flow}
 use Rattle.statement_effects.specs.declared.instruction.Flow.TheVariants as flow
 use Rattle.statement_effects.specs.Effect.{effect_of}
@@ -94,11 +90,17 @@ high_push n (f ∷ frames) frame s h =
     let e : n + length (f ∷ frames) ≡ suc n + length frames = omega arith in
     (s.0, high_push (suc n) frames frame s.1 (subst (λ k. IsHigh k frame.place) e h))
 
+-- there is a frame under a block
+pub high_some : (n : ℕ) (block : BlockRef) (at : ℕ) (level : Level) (mode : Mode) → IsHigh n (At block at level mode) → 0 < n
+high_some n block at level mode h =
+    let some : 0 < (if level.in_error then 2 else 1) = cond_both level.in_error _ _ (λ k. 0 < k) (λ _. omega arith) (λ _. omega arith) in
+    subst (λ k. 0 < k) (sym h) some
+
 -- a block begins over the place where another goes on
-pub push_sound : (c c' : Config) (frame : Frame) → c'.frames ≡ c.frames ++ frame ∷ [] → IsSound c → IsHigh (length c.frames) frame.place → IsHigh (length c.frames + 1) c'.place → IsSound c'
-push_sound c c' frame e sound under high = record {
+pub push_sound : (c c' : Config) (frame : Frame) → c'.frames ≡ c.frames ++ frame ∷ [] → AreStacked 0 c.frames → IsHigh (length c.frames) frame.place → IsHigh (length c.frames + 1) c'.place → IsSound c'
+push_sound c c' frame e stacked under high = record {
   high = rw (ap length e, length-append c.frames (frame ∷ [])) high;
-  stacked = rw e (high_push 0 c.frames frame sound.stacked (subst (λ n. IsHigh n frame.place) (sym (zero-add (length c.frames))) under));
+  stacked = rw e (high_push 0 c.frames frame stacked (subst (λ n. IsHigh n frame.place) (sym (zero-add (length c.frames))) under));
 }
 
 -- what a turn leads to, but for the statements that are completed

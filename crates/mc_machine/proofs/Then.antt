@@ -1,10 +1,9 @@
 -- A block goes by itself up to its end, and then what follows.
-use Rattle.std.proofs.Common.{◌≡◌, ℕ, zero, suc, Bool, true, false, List, [], ◌∷◌, Some, refl, sym, ap, ◌∙◌}
+use Rattle.std.proofs.Common.{◌≡◌, ℕ, zero, suc, Bool, true, false, List, [], ◌∷◌, refl, sym, ap, ◌∙◌}
 use Rattle.std.specs.Prelude.{if◌then◌else◌}
 use Rattle.s7_events.specs.declared.entry.Request.{Request}
 use Rattle.s7_events.specs.declared.entry.Answer.{Answer}
-use Rattle.mc_machine.specs.declared.places.Place.{Place}
-use Rattle.mc_machine.specs.declared.places.Place.TheVariants.{AtStop}
+use Rattle.mc_machine.specs.Places.{Place, AtStop}
 use Rattle.statement_effects.specs.Areas.{with_registers}
 use Rattle.mc_machine.specs.Meaning.{State, End, Waits, Stopped, Left, Undefined, Rest, Meaning, Move, Goes, Calls, Reaction, Again, Completes, Turn, Asks, Moves, Halts, Leaves, Ends, stop_request, takes_at, answered, resume, noting, moves, reacts, completed, took, asking, does, turn_of, body_within, left, body}
 use Rattle.mc_machine.specs.BlockRuns.{then_do, BodyThen, BodyTurn}
@@ -50,7 +49,7 @@ if_fits false rest e f h = refl
 asking_on : (m : Meaning) (here : Place) (r : Request) (rest : Rest) (s : State) (a : List Answer) → GoesOn m → asking m here r rest s a ≡ then_do (asking m here r Left s a) rest
 asking_on m here r rest s [] on = refl
 asking_on m here r rest s (x ∷ a) on =
-    if_fits (takes_at s.taken r x) rest _ _ (reacts_on m rest (took s) a on (answered s.program s.memory here r.ask x))
+    if_fits (takes_at s.taken r x) rest _ _ (reacts_on m rest (took s r.ask x) a on (answered s.program s.memory here r.ask x))
 
 does_on : (m : Meaning) (here : Place) (rest : Rest) (s : State) (a : List Answer) → GoesOn m → (t : Turn) → does m here rest s a t ≡ then_do (does m here Left s a t) rest
 does_on m here rest s a on (Asks r) = asking_on m here r rest s a on

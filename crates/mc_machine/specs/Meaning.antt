@@ -21,13 +21,7 @@ use Rattle.s7_events.specs.declared.entry.StopCode.{StopCode}
 use Rattle.s7_events.specs.declared.entry.StopCode.TheVariants as stops
 use Rattle.statement_effects.specs.declared.areas.Memory.{Memory}
 use Rattle.statement_effects.specs.declared.areas.Registers.{Registers}
-use Rattle.mc_machine.specs.declared.places.Level.{Level}
-use Rattle.mc_machine.specs.declared.places.Mode.{Mode}
-use Rattle.mc_machine.specs.declared.places.Mode.TheVariants.{Fresh, Ticking, Timing}
-use Rattle.mc_machine.specs.declared.places.Place.{Place}
-use Rattle.mc_machine.specs.declared.places.Place.TheVariants.{AtOutputs, AtInputs, AtCycle, AtStop, Over, At}
-use Rattle.mc_machine.specs.declared.places.Frame.{Frame}
-use Rattle.mc_machine.specs.declared.places.Note.{Note}
+use Rattle.mc_machine.specs.Places.{Level, Mode, Fresh, Ticking, Timing, Place, AtOutputs, AtInputs, AtCycle, AtStop, Over, At, Frame, Note}
 use Rattle.statement_effects.specs.declared.instruction.Instruction.{Instruction}
 use Rattle.statement_effects.specs.declared.instruction.Instruction.TheVariants.{Timed}
 use Rattle.statement_effects.specs.declared.instruction.Flow.{Flow}
@@ -38,12 +32,20 @@ use Rattle.statement_effects.specs.TimerEffect.{effect_timed}
 use Rattle.statement_effects.specs.Effect.{effect_of}
 use Rattle.statement_effects.specs.JumpEffect.{effect_end}
 
+-- the cycles so far: the moment at which the last one began, when its output image had been put out, 0 before any; how
+-- long the one before it took, in milliseconds, at most 32,767, and 0 in the first; and whether the first one is over
+pub record Cycles : Type 0 where
+  pub began_at : ℕ
+  pub last_length : ℕ
+  pub first_over : Bool
+
 -- how far a CPU has come: its program, what the statements see, the statements completed since the last answer,
--- all diagnostic entries, and how many answers it has taken
+-- the cycles, all diagnostic entries, and how many answers it has taken
 pub record State : Type 0 where
   pub program : Program
   pub memory : Memory
   pub since : ℕ
+  pub cycles : Cycles
   pub notes : List Note
   pub taken : ℕ
 
@@ -333,9 +335,25 @@ with_note all moment (Some code) = all ++ record { moment = moment; code = code 
 abbrev pub noting : State → Option DiagCode → State
 noting state note = record state { notes = with_note state.notes (state.taken - 1) note }
 
+-- from the moment of one beginning to that of the next
+abbrev pub cycle_length : ℕ → ℕ → ℕ
+cycle_length from to = if nat_lt (to - from) 32767 then to - from else 32767
+
+-- the output image was put out at a moment, so that a cycle begins
+abbrev pub cycle_begun : Cycles → ℕ → Cycles
+cycle_begun cycles moment =
+    record cycles { began_at = moment; last_length = if cycles.first_over then cycle_length cycles.began_at moment else 0 }
+
+-- the cycles after the answer of a moment
+abbrev pub cycles_after : Cycles → ℕ → Ask → Answer → Cycles
+cycles_after cycles moment (asks.Outputs image) answers.Done = cycle_begun cycles moment
+cycles_after cycles moment asks.Cycle answers.Go = record cycles { first_over = true }
+cycles_after cycles moment _ _ = cycles
+
 -- an answer was taken; answer k, counted from 0, stands at moment k
-abbrev pub took : State → State
-took state = record state { since = 0; taken = state.taken + 1 }
+abbrev pub took : State → Ask → Answer → State
+took state ask answer =
+    record state { since = 0; cycles = cycles_after state.cycles state.taken ask answer; taken = state.taken + 1 }
 
 abbrev pub reacts : Meaning → Rest → State → List Answer → Reaction → End
 reacts meaning rest state given (Again note move) = moves meaning rest (noting state note) given move
@@ -350,7 +368,7 @@ reacts meaning rest state given (Completes Ends) = Undefined
 abbrev pub asking : Meaning → Place → Request → Rest → State → List Answer → End
 asking meaning place request rest state [] = Waits request state
 asking meaning place request rest state (answer ∷ given) =
-    if takes_at state.taken request answer then reacts meaning rest (took state) given (answered state.program state.memory place request.ask answer)
+    if takes_at state.taken request answer then reacts meaning rest (took state request.ask answer) given (answered state.program state.memory place request.ask answer)
     else Undefined
 
 abbrev pub does : Meaning → Place → Rest → State → List Answer → Turn → End
@@ -386,8 +404,12 @@ never state given = Undefined
 abbrev pub start_notes : List Note
 start_notes = record { moment = 0; code = notes.Start } ∷ []
 
+-- no cycle has begun
+abbrev pub start_cycles : Cycles
+start_cycles = record { began_at = 0; last_length = 0; first_over = false }
+
 abbrev pub start : Program → State
-start program = record { program = program; memory = start_memory; since = 0; notes = start_notes; taken = 0 }
+start program = record { program = program; memory = start_memory; since = 0; cycles = start_cycles; notes = start_notes; taken = 0 }
 
 -- what the standard CPU does with a program and answers
 abbrev pub std : Program → List Answer → End
