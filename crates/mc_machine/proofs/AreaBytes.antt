@@ -1,5 +1,5 @@
 -- An area whose bytes are those of its parts, all of one width.
-use Rattle.std.proofs.Common.{◌≡◌, ℕ, zero, suc, ◌+◌, ◌*◌, ◌/◌, ◌%◌, ◌<◌, List, [], ◌∷◌, ◌++◌, length, Some, None, refl, ap, ◌∙◌, arith, slice_get, zero-add}
+use Rattle.std.proofs.Common.{◌≡◌, ℕ, zero, suc, ◌+◌, ◌*◌, ◌/◌, ◌%◌, ◌-◌, ◌<◌, ◌≤◌, List, [], ◌∷◌, ◌++◌, length, Some, None, refl, ap, ◌∙◌, arith, slice_get, zero-add}
 use Rattle.std.specs.Prelude.{flat_map}
 use Rattle.std.specs.Option.{option_and_then}
 use Rattle.timers.specs.State.{TimerState}
@@ -17,6 +17,15 @@ get_right [] ys i = ap (slice_get ys) (zero-add i)
 get_right (x ∷ xs) ys i =
     let e : suc (length xs) + i ≡ suc (length xs + i) = omega arith in
     ap (slice_get (x ∷ (xs ++ ys))) e ∙ get_right xs ys i
+
+-- a byte of the first part of a list whose first part has this length, and one behind it
+pub front_byte : (xs ys : List ℕ) (i : ℕ) → length xs ≡ 24 → i < 24 → slice_get (xs ++ ys) i ≡ slice_get xs i
+front_byte xs ys i long lt = get_left xs ys i (omega arith)
+
+pub back_byte : (xs ys : List ℕ) (i : ℕ) → length xs ≡ 24 → 24 ≤ i → slice_get (xs ++ ys) i ≡ slice_get ys (i - 24)
+back_byte xs ys i long le =
+    let e : i ≡ length xs + (i - 24) = omega arith in
+    ap (slice_get (xs ++ ys)) e ∙ get_right xs ys (i - 24)
 
 -- the byte r of part q
 part_byte : {X : Type 0} (f : X → List ℕ) (w : ℕ) (xs : List X) (q r : ℕ) → ((x : X) → length (f x) ≡ w) → r < w

@@ -1,22 +1,20 @@
 -- How deep the recursion is allowed to go makes no difference once it is deep enough.
-use Rattle.std.proofs.Common.{◌≡◌, ℕ, zero, suc, ◌<◌, ◌≤◌, nat_lt, List, [], ◌∷◌, Option, Some, None, refl, ap, arith}
+use Rattle.std.proofs.Common.{◌≡◌, ℕ, zero, suc, ◌<◌, ◌≤◌, nat_lt, ◌+◌, List, [], ◌∷◌, Option, Some, None, Result, Ok, Err, refl, ap, arith}
 use Rattle.std.specs.Prelude.{slice_get, if◌then◌else◌}
 use Rattle.std.proofs.lemmas.Bool.{cond_both, ltb-true}
 use Rattle.s7_base.specs.declared.statement.Statement.{Statement}
 use Rattle.s7_base.specs.declared.blocks.BlockRef.{BlockRef}
 use Rattle.s7_events.specs.declared.entry.Request.{Request}
 use Rattle.s7_events.specs.declared.entry.Answer.{Answer}
+use Rattle.s7_events.specs.declared.entry.StopCode.{StopCode}
 use Rattle.s7_base.specs.Blocks.{Program}
 use Rattle.statement_effects.specs.State.{Memory}
-use Rattle.mc_machine.specs.declared.places.Level.{Level}
-use Rattle.mc_machine.specs.declared.places.Mode.TheVariants.{Fresh, Ticking, Timing}
-use Rattle.mc_machine.specs.declared.places.Place.{Place}
-use Rattle.mc_machine.specs.declared.places.Place.TheVariants.{AtOutputs, AtInputs, AtCycle, AtStop, Over, At}
+use Rattle.mc_machine.specs.Places.{Level, Fresh, Ticking, Timing, Place, AtOutputs, AtInputs, AtCycle, AtStop, Over, At}
 use Rattle.statement_effects.specs.declared.instruction.Flow.{Flow}
 use Rattle.statement_effects.specs.declared.instruction.Flow.TheVariants as flow
 use Rattle.statement_effects.specs.Areas.{with_registers}
 use Rattle.statement_effects.specs.Effect.{effect_of}
-use Rattle.mc_machine.specs.Meaning.{State, Undefined, Rest, Meaning, Move, Goes, Calls, Reaction, Again, Completes, Turn, Asks, Moves, Halts, Leaves, Ends, statements_of, flows, stop_request, takes_at, answered, resume, noting, moves, reacts, completed, took, asking, does, runs, turn_of, turn, body_within, left, body}
+use Rattle.mc_machine.specs.Meaning.{State, Undefined, Rest, Meaning, Move, Goes, Calls, Reaction, Again, Completes, Turn, Asks, Moves, Halts, Leaves, Ends, statements_of, error_level, failed, flows, stop_request, takes_at, answered, at_block_end, resume, noting, moves, reacts, completed, took, asking, does, runs, turn_of, turn, body_within, left, body}
 
 -- two continuations agree wherever no more is left than this
 pub record Agree (rest rest' : Rest) (bound : ℕ) : Type 0 where
@@ -38,16 +36,22 @@ moves_same m m' rest rest' b s a lt same agree (Calls memory p f) =
 
 reacts_same : (m m' : Meaning) (rest rest' : Rest) (b : ℕ) (s : State) (a : List Answer) → left s a < b → Same m m' b → Agree rest rest' b → (v : Reaction) → reacts m rest s a v ≡ reacts m' rest' s a v
 reacts_same m m' rest rest' b s a lt same agree (Again n v) = moves_same m m' rest rest' b (noting s n) a lt same agree v
-reacts_same m m' rest rest' b s a lt same agree (Completes n v) = moves_same m m' rest rest' b (completed (noting s n)) a (omega arith) same agree v
+reacts_same m m' rest rest' b s a lt same agree (Completes (Moves n v)) = moves_same m m' rest rest' b (completed (noting s n)) a (omega arith) same agree v
+reacts_same m m' rest rest' b s a lt same agree (Completes (Halts n memory code)) =
+    let s2 : State = completed (noting (record s { memory = memory }) n) in
+    same.at (AtStop code) rest rest' s2 a (omega arith) (less_agrees rest rest' b (left s2 a) (omega arith) agree)
+reacts_same m m' rest rest' b s a lt same agree (Completes (Asks r)) = refl
+reacts_same m m' rest rest' b s a lt same agree (Completes Leaves) = refl
+reacts_same m m' rest rest' b s a lt same agree (Completes Ends) = refl
 
 asking_same : (m m' : Meaning) (here : Place) (r : Request) (rest rest' : Rest) (s : State) (a : List Answer) (b : ℕ) → left s a ≡ b → Same m m' b → Agree rest rest' b → asking m here r rest s a ≡ asking m' here r rest' s a
 asking_same m m' here r rest rest' s [] b e same agree = refl
 asking_same m m' here r rest rest' s (x ∷ a) b e same agree =
-    ap (λ v. if takes_at s.taken r x then v else Undefined) (reacts_same m m' rest rest' b (took s) a (omega arith) same agree (answered s.program s.memory here r.ask x))
+    ap (λ v. if takes_at s.taken r x then v else Undefined) (reacts_same m m' rest rest' b (took s r.ask x) a (omega arith) same agree (answered s.program s.memory here r.ask x))
 
 -- a turn that completes a statement comes before the 256th
 abbrev pub Counts : Turn → ℕ → Type 0
-Counts (Moves _) since = since < 256
+Counts (Moves note move) since = since < 256
 Counts (Asks r) since = Unit {0}
 Counts (Halts note memory code) since = Unit {0}
 Counts Leaves since = Unit {0}
@@ -55,18 +59,23 @@ Counts Ends since = Unit {0}
 
 does_same : (m m' : Meaning) (here : Place) (rest rest' : Rest) (s : State) (a : List Answer) (b : ℕ) → left s a ≡ b → Same m m' b → Agree rest rest' b → (t : Turn) → Counts t s.since → does m here rest s a t ≡ does m' here rest' s a t
 does_same m m' here rest rest' s a b e same agree (Asks r) c = asking_same m m' here r rest rest' s a b e same agree
-does_same m m' here rest rest' s a b e same agree (Moves v) c = moves_same m m' rest rest' b (completed s) a (omega arith) same agree v
+does_same m m' here rest rest' s a b e same agree (Moves n v) c = moves_same m m' rest rest' b (completed (noting s n)) a (omega arith) same agree v
 does_same m m' here rest rest' s a b e same agree (Halts note memory code) c =
-    asking_same m m' (AtStop code) (stop_request code) rest rest' (noting (record s { memory = memory }) (Some note)) a b e same agree
-does_same m m' here rest rest' s a b e same agree Leaves c = agree.at s a (omega arith)
+    asking_same m m' (AtStop code) (stop_request code) rest rest' (noting (record s { memory = memory }) note) a b e same agree
+does_same m m' here rest rest' s a b e same agree Leaves c = agree.at (record s { memory = at_block_end s.memory }) a (omega arith)
 does_same m m' here rest rest' s a b e same agree Ends c = refl
+
+counts_failed : (next : Place) (memory : Memory) (error since : ℕ) → since < 256 → (r : Result Level StopCode) → Counts (failed next memory error r) since
+counts_failed next memory error since lt (Ok level) = lt
+counts_failed next memory error since lt (Err code) = tt
 
 counts_flows : (program : Program) (block : BlockRef) (at : ℕ) (level : Level) (since : ℕ) (memory : Memory) → since < 256 → (to : Flow) → Counts (flows program block at level memory to) since
 counts_flows program block at level since memory lt flow.Next = lt
 counts_flows program block at level since memory lt (flow.Jump target) = lt
 counts_flows program block at level since memory lt (flow.Among number target) = lt
 counts_flows program block at level since memory lt flow.End = lt
-counts_flows program block at level since memory lt (flow.Fail error) = tt
+counts_flows program block at level since memory lt (flow.Fail error) =
+    counts_failed (At block (at + 1) level Fresh) memory error since lt (error_level program level error)
 counts_flows program block at level since memory lt flow.AskNow = tt
 
 counts_runs : (program : Program) (block : BlockRef) (at : ℕ) (level : Level) (since : ℕ) (memory : Memory) (o : Option Statement) → Counts (runs program block at level since memory o) since

@@ -4,4 +4,5 @@ pub mod Enough
 pub mod Keeps
 pub mod Row
 pub mod Sound
+pub mod Stored
 pub mod Then

@@ -1,5 +1,5 @@
 -- Where a request is asked, and what follows a statement.
-use Rattle.std.proofs.Common.{◌≡◌, ℕ, suc, ◌+◌, ◌<◌, List, [], ◌∷◌, ◌++◌, length, Option, Some, None, refl, sym, ap, ◌∙◌, subst, arith, add-zero, zero-add}
+use Rattle.std.proofs.Common.{◌≡◌, ℕ, suc, ◌+◌, ◌<◌, List, [], ◌∷◌, ◌++◌, length, Option, Some, None, Result, Ok, Err, refl, sym, ap, ◌∙◌, subst, arith, add-zero, zero-add, length-append}
 use Rattle.std.specs.Prelude.{slice_get, nat_lt, if◌then◌else◌}
 use Rattle.std.proofs.lemmas.Bool.{cond_both, lt-ltb}
 use Rattle.s7_base.specs.declared.statement.Statement.{Statement}
@@ -7,25 +7,27 @@ use Rattle.s7_base.specs.declared.blocks.BlockRef.{BlockRef}
 use Rattle.s7_events.specs.declared.entry.Ask.{Ask}
 use Rattle.s7_events.specs.declared.entry.Ask.TheVariants as asks
 use Rattle.s7_events.specs.declared.entry.Request.{Request}
+use Rattle.s7_events.specs.declared.entry.StopCode.{StopCode}
 use Rattle.s7_base.specs.Blocks.{Program}
 use Rattle.statement_effects.specs.State.{Memory}
-use Rattle.mc_machine.specs.declared.places.Level.{Level}
-use Rattle.mc_machine.specs.declared.places.Mode.TheVariants.{Fresh, Ticking, Timing}
-use Rattle.mc_machine.specs.declared.places.Place.{Place}
-use Rattle.mc_machine.specs.declared.places.Place.TheVariants.{AtOutputs, AtInputs, AtCycle, AtStop, Over, At}
-use Rattle.mc_machine.specs.declared.places.Frame.{Frame}
+use Rattle.mc_machine.specs.Places.{Level, Mode, Fresh, Ticking, Timing, Place, AtOutputs, AtInputs, AtCycle, AtStop, Over, At, Frame}
 use Rattle.statement_effects.specs.declared.instruction.Flow.{Flow}
 use Rattle.statement_effects.specs.declared.instruction.Flow.TheVariants as flow
 use Rattle.statement_effects.specs.Effect.{effect_of}
-use Rattle.mc_machine.specs.Meaning.{Asks, statements_of, flows, runs, turn_of, request_of, stop_request}
-use Rattle.mc_machine.specs.Stands.{Config, Follows, AsksAt, IsAsked, IsAskedAt, IsHigh, AreStacked, IsSound}
+use Rattle.mc_machine.specs.Meaning.{Turn, Asks, Moves, Halts, Leaves, Ends, Goes, Calls, statements_of, error_level, failed, flows, runs, turn_of, request_of, stop_request}
+use Rattle.mc_machine.specs.Stands.{Config, Follows, AsksAt, IsAsked, IsAskedAt, IsTurned, halts_with, IsHigh, AreStacked, IsSound}
+
+asked_failed : (next : Place) (memory : Memory) (error : ℕ) (r : Request) (o : Result Level StopCode) → failed next memory error o ≡ Asks r → ⊥
+asked_failed next memory error r (Ok level) e = cc
+asked_failed next memory error r (Err code) e = cc
 
 asked_flow : (program : Program) (block : BlockRef) (at : ℕ) (level : Level) (memory : Memory) (r : Request) (to : Flow) → flows program block at level memory to ≡ Asks r → IsAskedAt (At block at level Fresh) r.ask
 asked_flow program block at level memory r flow.Next e = absurd cc
 asked_flow program block at level memory r (flow.Jump target) e = absurd cc
 asked_flow program block at level memory r (flow.Among number target) e = absurd cc
 asked_flow program block at level memory r flow.End e = absurd cc
-asked_flow program block at level memory r (flow.Fail error) e = absurd cc
+asked_flow program block at level memory r (flow.Fail error) e =
+    absurd (asked_failed (At block (at + 1) level Fresh) memory error r (error_level program level error) e)
 asked_flow program block at level memory r flow.AskNow e =
     let q : request_of asks.Now level.priority ≡ r = cc in subst (λ (r : Request). IsAskedAt (At block at level Fresh) r.ask) q (block, at, level, Fresh, refl)
 
@@ -82,6 +84,51 @@ pop_sound c c' frame e p sound =
       stacked = h.0;
     }
 
+high_push : (n : ℕ) (frames : List Frame) (frame : Frame) → AreStacked n frames → IsHigh (n + length frames) frame.place → AreStacked n (frames ++ frame ∷ [])
+high_push n [] frame s h = (rw (sym (add-zero n)) h, tt)
+high_push n (f ∷ frames) frame s h =
+    let e : n + length (f ∷ frames) ≡ suc n + length frames = omega arith in
+    (s.0, high_push (suc n) frames frame s.1 (subst (λ k. IsHigh k frame.place) e h))
+
+-- there is a frame under a block
+pub high_some : (n : ℕ) (block : BlockRef) (at : ℕ) (level : Level) (mode : Mode) → IsHigh n (At block at level mode) → 0 < n
+high_some n block at level mode h =
+    let some : 0 < (if level.in_error then 2 else 1) = cond_both level.in_error _ _ (λ k. 0 < k) (λ _. omega arith) (λ _. omega arith) in
+    subst (λ k. 0 < k) (sym h) some
+
+-- a block begins over the place where another goes on
+pub push_sound : (c c' : Config) (frame : Frame) → c'.frames ≡ c.frames ++ frame ∷ [] → AreStacked 0 c.frames → IsHigh (length c.frames) frame.place → IsHigh (length c.frames + 1) c'.place → IsSound c'
+push_sound c c' frame e stacked under high = record {
+  high = rw (ap length e, length-append c.frames (frame ∷ [])) high;
+  stacked = rw e (high_push 0 c.frames frame stacked (subst (λ n. IsHigh n frame.place) (sym (zero-add (length c.frames))) under));
+}
+
+-- what a turn leads to, but for the statements that are completed
+pub turned_since : (t : Turn) (c c' : Config) (since since' at : ℕ) → IsTurned t c since at c' → IsTurned t c since' at (record c' { since = since' })
+turned_since (Moves note (Goes memory p)) c c' since since' at e = ap (λ (x : Config). record x { since = since' }) e
+turned_since (Moves note (Calls memory p f)) c c' since since' at e = ap (λ (x : Config). record x { since = since' }) e
+turned_since (Halts note memory code) c c' since since' at e = ap (λ (x : Config). record x { since = since' }) e
+turned_since (Asks r) c c' since since' at e = absurd e
+turned_since Leaves c c' since since' at e = absurd e
+turned_since Ends c c' since since' at e = absurd e
+
+-- one statement more was completed
+pub turned_moves : (t : Turn) (c c' : Config) → IsTurned t c c.since c.at c' → None ≡ halts_with t → Follows t c None (record c' { since = c.since + 1 })
+turned_moves (Moves note (Goes memory p)) c c' e n = (refl, ap (λ (x : Config). record x { since = c.since + 1 }) e)
+turned_moves (Moves note (Calls memory p f)) c c' e n = (refl, ap (λ (x : Config). record x { since = c.since + 1 }) e)
+turned_moves (Halts note memory code) c c' e n = absurd cc
+turned_moves (Asks r) c c' e n = absurd e
+turned_moves Leaves c c' e n = absurd e
+turned_moves Ends c c' e n = absurd e
+
+-- none was
+pub turned_halts : (t : Turn) (c c' : Config) (r : Request) → IsTurned t c c.since c.at c' → Some r ≡ halts_with t → Follows t c (Some r) c'
+turned_halts (Halts note memory code) c c' r e n = (n, e)
+turned_halts (Moves note v) c c' r e n = absurd cc
+turned_halts (Asks q) c c' r e n = absurd e
+turned_halts Leaves c c' r e n = absurd e
+turned_halts Ends c c' r e n = absurd e
+
 -- a turn in a block --
 
 -- the turn at a place in a block, from what was found there
@@ -92,13 +139,18 @@ acts c block at level statement memory to p s lt e =
     ∙ ap (λ b. if b then flows c.program block at level (effect_of statement c.memory).0 (effect_of statement c.memory).1 else Asks (request_of asks.Tick level.priority)) (lt-ltb c.since 256 lt)
     ∙ ap (λ (x : Memory × Flow). flows c.program block at level x.0 x.1) e
 
+changed_failed : (c c' : Config) (next : Place) (memory : Memory) (error : ℕ) (o : Option Request) (r : Result Level StopCode) → Follows (failed next memory error r) (record c { memory = memory }) o c' → Follows (failed next memory error r) c o c'
+changed_failed c c' next memory error o (Ok level) f = f
+changed_failed c c' next memory error o (Err code) f = f
+
 -- what follows the changed memory follows the place
 changed : (program : Program) (c c' : Config) (block : BlockRef) (at : ℕ) (level : Level) (memory : Memory) (o : Option Request) (to : Flow) → (to ≡ flow.AskNow → memory ≡ c.memory) → Follows (flows program block at level memory to) (record c { memory = memory }) o c' → Follows (flows program block at level memory to) c o c'
 changed program c c' block at level memory o flow.Next u f = f
 changed program c c' block at level memory o (flow.Jump target) u f = f
 changed program c c' block at level memory o (flow.Among number target) u f = f
 changed program c c' block at level memory o flow.End u f = f
-changed program c c' block at level memory o (flow.Fail error) u f = f
+changed program c c' block at level memory o (flow.Fail error) u f =
+    changed_failed c c' (At block (at + 1) level Fresh) memory error o (error_level program level error) f
 changed program c c' block at level memory o flow.AskNow u f = (f.0, f.1 ∙ ap (λ m. record c { memory = m }) (u refl))
 
 pub run_follows : (c c' : Config) (block : BlockRef) (at : ℕ) (level : Level) (statement : Statement) (memory : Memory) (to : Flow) (o : Option Request) → c.place ≡ At block at level Fresh → slice_get (statements_of c.program block) at ≡ Some statement → c.since < 256 → effect_of statement c.memory ≡ (memory, to) → (to ≡ flow.AskNow → memory ≡ c.memory) → Follows (flows c.program block at level memory to) (record c { memory = memory }) o c' → Follows (turn_of c.program c.since c.memory c.place) c o c'

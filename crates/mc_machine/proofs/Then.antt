@@ -1,10 +1,9 @@
 -- A block goes by itself up to its end, and then what follows.
-use Rattle.std.proofs.Common.{◌≡◌, ℕ, zero, suc, Bool, true, false, List, [], ◌∷◌, Some, refl, sym, ap, ◌∙◌}
+use Rattle.std.proofs.Common.{◌≡◌, ℕ, zero, suc, Bool, true, false, List, [], ◌∷◌, refl, sym, ap, ◌∙◌}
 use Rattle.std.specs.Prelude.{if◌then◌else◌}
 use Rattle.s7_events.specs.declared.entry.Request.{Request}
 use Rattle.s7_events.specs.declared.entry.Answer.{Answer}
-use Rattle.mc_machine.specs.declared.places.Place.{Place}
-use Rattle.mc_machine.specs.declared.places.Place.TheVariants.{AtStop}
+use Rattle.mc_machine.specs.Places.{Place, AtStop}
 use Rattle.statement_effects.specs.Areas.{with_registers}
 use Rattle.mc_machine.specs.Meaning.{State, End, Waits, Stopped, Left, Undefined, Rest, Meaning, Move, Goes, Calls, Reaction, Again, Completes, Turn, Asks, Moves, Halts, Leaves, Ends, stop_request, takes_at, answered, resume, noting, moves, reacts, completed, took, asking, does, turn_of, body_within, left, body}
 use Rattle.mc_machine.specs.BlockRuns.{then_do, BodyThen, BodyTurn}
@@ -37,7 +36,11 @@ moves_on m rest s a on (Calls memory p f) =
 
 reacts_on : (m : Meaning) (rest : Rest) (s : State) (a : List Answer) → GoesOn m → (v : Reaction) → reacts m rest s a v ≡ then_do (reacts m Left s a v) rest
 reacts_on m rest s a on (Again n v) = moves_on m rest (noting s n) a on v
-reacts_on m rest s a on (Completes n v) = moves_on m rest (completed (noting s n)) a on v
+reacts_on m rest s a on (Completes (Moves n v)) = moves_on m rest (completed (noting s n)) a on v
+reacts_on m rest s a on (Completes (Halts n memory code)) = on.at (AtStop code) rest (completed (noting (record s { memory = memory }) n)) a
+reacts_on m rest s a on (Completes (Asks r)) = refl
+reacts_on m rest s a on (Completes Leaves) = refl
+reacts_on m rest s a on (Completes Ends) = refl
 
 if_fits : (b : Bool) (rest : Rest) (e f : End) → e ≡ then_do f rest → (if b then e else Undefined) ≡ then_do (if b then f else Undefined) rest
 if_fits true rest e f h = h
@@ -46,13 +49,13 @@ if_fits false rest e f h = refl
 asking_on : (m : Meaning) (here : Place) (r : Request) (rest : Rest) (s : State) (a : List Answer) → GoesOn m → asking m here r rest s a ≡ then_do (asking m here r Left s a) rest
 asking_on m here r rest s [] on = refl
 asking_on m here r rest s (x ∷ a) on =
-    if_fits (takes_at s.taken r x) rest _ _ (reacts_on m rest (took s) a on (answered s.program s.memory here r.ask x))
+    if_fits (takes_at s.taken r x) rest _ _ (reacts_on m rest (took s r.ask x) a on (answered s.program s.memory here r.ask x))
 
 does_on : (m : Meaning) (here : Place) (rest : Rest) (s : State) (a : List Answer) → GoesOn m → (t : Turn) → does m here rest s a t ≡ then_do (does m here Left s a t) rest
 does_on m here rest s a on (Asks r) = asking_on m here r rest s a on
-does_on m here rest s a on (Moves v) = moves_on m rest (completed s) a on v
+does_on m here rest s a on (Moves n v) = moves_on m rest (completed (noting s n)) a on v
 does_on m here rest s a on (Halts note memory code) =
-    asking_on m (AtStop code) (stop_request code) rest (noting (record s { memory = memory }) (Some note)) a on
+    asking_on m (AtStop code) (stop_request code) rest (noting (record s { memory = memory }) note) a on
 does_on m here rest s a on Leaves = refl
 does_on m here rest s a on Ends = refl
 

@@ -1,7 +1,7 @@
 -- The meaning of a place, read without what follows its block.
 use Rattle.std.specs.Prelude.{◌≡◌, List}
 use Rattle.s7_events.specs.declared.entry.Answer.{Answer}
-use Rattle.mc_machine.specs.declared.places.Place.{Place}
+use Rattle.mc_machine.specs.Places.{Place}
 use Rattle.mc_machine.specs.Meaning.{State, End, Waits, Stopped, Left, Undefined, Rest, turn, body}
 
 -- How a block goes from a place on, by itself: it ends, and these answers are left; or the CPU stops in it; or no answer is

@@ -1,17 +1,68 @@
--- What an engine is, apart from how it is stored.
+-- What an engine is, apart from how it is stored: a block that has begun is found by its index among the code blocks.
+use Rattle.std.specs.Prelude.{◌≡◌, ℕ, List, [], ◌∷◌, map, slice_get}
+use Rattle.s7_base.specs.declared.blocks.BlockRef.{BlockRef}
+use Rattle.s7_base.specs.Blocks.{Program, code_of}
 use Rattle.mc_machine.specs.declared.engine.Engine.{Engine}
+use Rattle.mc_machine.specs.declared.places.Level.{Level as StoredLevel}
+use Rattle.mc_machine.specs.declared.places.Mode.{Mode as StoredMode}
+use Rattle.mc_machine.specs.declared.places.Mode.TheVariants as modes
+use Rattle.mc_machine.specs.declared.places.Spot.{Spot}
+use Rattle.mc_machine.specs.declared.places.Spot.TheVariants as spots
+use Rattle.mc_machine.specs.declared.places.Frame.{Frame as StoredFrame}
+use Rattle.mc_machine.specs.Places.{Level, Mode, Fresh, Ticking, Timing, Place, AtOutputs, AtInputs, AtCycle, AtStop, Over, At, Frame}
 use Rattle.mc_machine.specs.Stands.{Config, Running}
+
+abbrev pub level_in : StoredLevel → Level
+level_in level = record { priority = level.priority; depth = level.depth; local_bytes = level.local_bytes; in_error = level.in_error }
+
+abbrev pub mode_of : StoredMode → Mode
+mode_of modes.Fresh = Fresh
+mode_of modes.Ticking = Ticking
+mode_of modes.Timing = Timing
+
+abbrev pub place_of : Spot → Place
+place_of spots.AtOutputs = AtOutputs
+place_of spots.AtInputs = AtInputs
+place_of spots.AtCycle = AtCycle
+place_of (spots.AtStop code) = AtStop code
+place_of spots.Over = Over
+place_of (spots.At spot) = At spot.block spot.at (level_in spot.level) (mode_of spot.mode)
+
+abbrev pub frame_of : StoredFrame → Frame
+frame_of frame = record { place = place_of frame.spot; kept = frame.kept }
 
 abbrev pub config_of : Engine → Config
 config_of engine = record {
   program = engine.program;
-  place = engine.place;
-  frames = engine.frames.items;
+  place = place_of engine.spot;
+  frames = map frame_of engine.frames.items;
   memory = engine.memory;
   since = engine.since;
   at = engine.at;
+  cycles = record { began_at = engine.began_at; last_length = engine.last_length; first_over = engine.first_over };
   diag = engine.diag.items;
 }
 
 abbrev pub running_of : Engine → Running
 running_of engine = record { config = config_of engine; waits = engine.waits }
+
+-- the index of a block among the code blocks; behind them where it is not loaded
+abbrev pub IsCode : Program → ℕ → BlockRef → Type 0
+IsCode program code block = slice_get program.codes code ≡ code_of program block.kind block.number
+
+abbrev pub IsIndexed : Program → Spot → Type 0
+IsIndexed program spots.AtOutputs = Unit {0}
+IsIndexed program spots.AtInputs = Unit {0}
+IsIndexed program spots.AtCycle = Unit {0}
+IsIndexed program (spots.AtStop code) = Unit {0}
+IsIndexed program spots.Over = Unit {0}
+IsIndexed program (spots.At spot) = IsCode program spot.code spot.block
+
+abbrev pub AreIndexed : Program → List StoredFrame → Type 0
+AreIndexed program [] = Unit {0}
+AreIndexed program (frame ∷ frames) = IsIndexed program frame.spot × AreIndexed program frames
+
+-- each block that runs, or goes on later, is found by its index
+pub record IsStored (engine : Engine) : Type 0 where
+  pub here : IsIndexed engine.program engine.spot
+  pub later : AreIndexed engine.program engine.frames.items

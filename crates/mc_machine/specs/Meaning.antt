@@ -2,7 +2,8 @@
 use Rattle.std.specs.Prelude.{ℕ, zero, suc, ◌+◌, ◌-◌, ◌*◌, ◌==◌, Bool, true, false, nat_lt, if◌then◌else◌, ◌&&◌, List, [], ◌∷◌, ◌++◌, length, Option, Some, None, Result, Ok, Err, slice_get}
 use Rattle.s7_base.specs.declared.statement.Statement.{Statement}
 use Rattle.s7_base.specs.declared.blocks.BlockRef.{BlockRef}
-use Rattle.s7_base.specs.declared.blocks.CodeKind.TheVariants.{Ob}
+use Rattle.s7_base.specs.declared.blocks.CodeKind.{CodeKind}
+use Rattle.s7_base.specs.declared.blocks.CodeKind.TheVariants.{Ob, Fb, Fc}
 use Rattle.s7_events.specs.declared.entry.Side.{Side}
 use Rattle.s7_events.specs.declared.entry.Loss.{Loss}
 use Rattle.s7_events.specs.declared.entry.Loss.TheVariants.{Failed, Suspect}
@@ -19,28 +20,32 @@ use Rattle.s7_events.specs.Priorities.{priority_of}
 use Rattle.s7_events.specs.declared.entry.StopCode.{StopCode}
 use Rattle.s7_events.specs.declared.entry.StopCode.TheVariants as stops
 use Rattle.statement_effects.specs.State.{Memory}
-use Rattle.mc_machine.specs.declared.places.Level.{Level}
-use Rattle.mc_machine.specs.declared.places.Mode.{Mode}
-use Rattle.mc_machine.specs.declared.places.Mode.TheVariants.{Fresh, Ticking, Timing}
-use Rattle.mc_machine.specs.declared.places.Place.{Place}
-use Rattle.mc_machine.specs.declared.places.Place.TheVariants.{AtOutputs, AtInputs, AtCycle, AtStop, Over, At}
-use Rattle.mc_machine.specs.declared.places.Frame.{Frame}
-use Rattle.mc_machine.specs.declared.places.Note.{Note}
+use Rattle.statement_effects.specs.declared.areas.Registers.{Registers}
+use Rattle.mc_machine.specs.Places.{Level, Mode, Fresh, Ticking, Timing, Place, AtOutputs, AtInputs, AtCycle, AtStop, Over, At, Frame, Note}
 use Rattle.statement_effects.specs.declared.instruction.Instruction.{Instruction}
 use Rattle.statement_effects.specs.declared.instruction.Instruction.TheVariants.{Timed}
 use Rattle.statement_effects.specs.declared.instruction.Flow.{Flow}
 use Rattle.statement_effects.specs.declared.instruction.Flow.TheVariants as flow
-use Rattle.statement_effects.specs.Areas.{clear_registers, with_registers, start_memory}
+use Rattle.statement_effects.specs.Areas.{clear_registers, with_registers, with_status, start_memory}
 use Rattle.statement_effects.specs.Reading.{instruction_of}
 use Rattle.statement_effects.specs.TimerEffect.{effect_timed}
 use Rattle.statement_effects.specs.Effect.{effect_of}
+use Rattle.statement_effects.specs.JumpEffect.{effect_end}
+
+-- the cycles so far: the moment at which the last one began, when its output image had been put out, 0 before any; how
+-- long the one before it took, in milliseconds, at most 32,767, and 0 in the first; and whether the first one is over
+pub record Cycles : Type 0 where
+  pub began_at : ℕ
+  pub last_length : ℕ
+  pub first_over : Bool
 
 -- how far a CPU has come: its program, what the statements see, the statements completed since the last answer,
--- all diagnostic entries, and how many answers it has taken
+-- the cycles, all diagnostic entries, and how many answers it has taken
 pub record State : Type 0 where
   pub program : Program
   pub memory : Memory
   pub since : ℕ
+  pub cycles : Cycles
   pub notes : List Note
   pub taken : ℕ
 
@@ -65,24 +70,23 @@ pub data Move : Type 0 where
   Goes : (memory : Memory) (place : Place) → Move
   Calls : (memory : Memory) (place : Place) (frame : Frame) → Move
 
--- what happens at a place: the CPU asks; or a statement is completed; or one fails, so that a diagnostic entry is made
--- and the CPU asks to stop; or the block ends; or the CPU has stopped
+-- what happens at a place: the CPU asks; or a statement is completed; or it is not, and the CPU asks to stop; or the block
+-- ends; or the CPU has stopped. A statement may make a diagnostic entry
 pub data Turn : Type 0 where
   Asks : (request : Request) → Turn
-  Moves : (move : Move) → Turn
-  Halts : (note : DiagCode) (memory : Memory) (code : StopCode) → Turn
+  Moves : (note : Option DiagCode) (move : Move) → Turn
+  Halts : (note : Option DiagCode) (memory : Memory) (code : StopCode) → Turn
   Leaves : Turn
   Ends : Turn
 
--- what an answer does: perhaps a diagnostic entry is made, and then the CPU is elsewhere; or a statement is completed by it
+-- what an answer does: perhaps a diagnostic entry is made, and then the CPU is elsewhere; or the statement that asked is
+-- completed by it, and that is a turn which moves or halts
 pub data Reaction : Type 0 where
   Again : (note : Option DiagCode) (move : Move) → Reaction
-  Completes : (note : Option DiagCode) (move : Move) → Reaction
+  Completes : (turn : Turn) → Reaction
 
 abbrev pub request_of : Ask → ℕ → Request
 request_of ask prio = record { prio = prio; ask = ask }
-
--- the statements --
 
 abbrev pub statements_in : Option Code → List Statement
 statements_in None = []
@@ -96,13 +100,80 @@ statements_of program block = statements_in (code_of program block.kind block.nu
 abbrev pub jump_among : ℕ → ℕ → ℕ → ℕ
 jump_among at number target = if nat_lt (at + 1 + number) target then at + 1 + number else target
 
--- where a statement leads; an error finds no OB121, so the CPU asks to stop
+-- blocks and levels --
+
+-- the local bytes of a code block: those of its temporary data, an OB's at least the 20 of its start information
+abbrev pub local_bytes_for : CodeKind → ℕ → ℕ
+local_bytes_for Ob temp = if nat_lt temp 20 then 20 else temp
+local_bytes_for Fb temp = temp
+local_bytes_for Fc temp = temp
+
+abbrev pub local_bytes_of : Code → ℕ
+local_bytes_of code = local_bytes_for code.kind code.temp
+
+abbrev pub local_bytes_in : Option Code → ℕ
+local_bytes_in None = 0
+local_bytes_in (Some code) = local_bytes_of code
+
+-- an organisation block begins on a level of its own
+abbrev pub level_of : Program → ℕ → Level
+level_of program ob = record { priority = priority_of ob; depth = 1; local_bytes = local_bytes_in (code_of program Ob ob); in_error = false }
+
+-- the level where one block more begins on it
+abbrev pub deeper : Level → ℕ → Level
+deeper level bytes = record level { depth = level.depth + 1; local_bytes = level.local_bytes + bytes }
+
+-- a block of so many local bytes begins on a level: 24 blocks at most, and 256 local bytes together
+abbrev pub entered : Level → ℕ → Result Level StopCode
+entered level bytes =
+    if nat_lt level.depth 24 then (if nat_lt 256 (level.local_bytes + bytes) then Err stops.Local else Ok (deeper level bytes)) else Err stops.Depth
+
+-- a block begins, unless it is not loaded
+abbrev pub entered_if : StopCode → Level → Option Code → Result Level StopCode
+entered_if missing level None = Err missing
+entered_if missing level (Some code) = entered level (local_bytes_of code)
+
+-- errors --
+
+-- the OB of an error: that of a direct access is OB122
+abbrev pub error_ob : ℕ → ℕ
+error_ob error = if error == 9 then 122 else 121
+
+-- where it is not loaded
+abbrev pub no_error_ob : ℕ → StopCode
+no_error_ob error = if error == 9 then stops.NoOb122 else stops.NoOb121
+
+-- the level on which the OB of an error begins: that of the block that failed. Inside an error OB, or in a block that it
+-- called, there is none
+abbrev pub error_level : Program → Level → ℕ → Result Level StopCode
+error_level program level error =
+    if level.in_error then Err stops.InError
+    else entered_if (no_error_ob error) (record level { in_error = true }) (code_of program Ob (error_ob error))
+
+-- an error OB begins with the accumulators of the block that failed
+abbrev pub error_registers : Registers → Registers
+error_registers registers = record clear_registers { accus = registers.accus }
+
+-- a statement failed: a diagnostic entry is made, and the error OB begins, or the CPU asks to stop
+abbrev pub failed : Place → Memory → ℕ → Result Level StopCode → Turn
+failed next memory error (Err code) = Halts (Some (notes.Error error)) memory code
+failed next memory error (Ok level) =
+    Moves (Some (notes.Error error))
+    (Calls (with_registers memory (error_registers memory.registers)) (At (record { kind = Ob; number = error_ob error }) 0 level Fresh) (record { place = next; kept = memory.registers }))
+
+-- a statement fails that another place follows
+abbrev pub fails : Program → Place → Level → Memory → ℕ → Turn
+fails program next level memory error = failed next memory error (error_level program level error)
+
+-- the statements --
+
+-- where a statement leads
 abbrev pub flows : Program → BlockRef → ℕ → Level → Memory → Flow → Turn
-flows program block at level memory flow.Next = Moves (Goes memory (At block (at + 1) level Fresh))
-flows program block at level memory (flow.Jump target) = Moves (Goes memory (At block target level Fresh))
-flows program block at level memory (flow.Among number target) = Moves (Goes memory (At block (jump_among at number target) level Fresh))
-flows program block at level memory flow.End = Moves (Goes memory (At block (length (statements_of program block)) level Fresh))
-flows program block at level memory (flow.Fail error) = Halts (notes.Error error) memory stops.NoOb121
+flows program block at level memory flow.Next = Moves None (Goes memory (At block (at + 1) level Fresh))
+flows program block at level memory (flow.Jump target) = Moves None (Goes memory (At block target level Fresh))
+flows program block at level memory (flow.Among number target) = Moves None (Goes memory (At block (jump_among at number target) level Fresh))
+flows program block at level memory flow.End = Moves None (Goes memory (At block (length (statements_of program block)) level Fresh))
+flows program block at level memory (flow.Fail error) = fails program (At block (at + 1) level Fresh) level memory error
 flows program block at level memory flow.AskNow = Asks (request_of asks.Now level.priority)
 
 -- the statement at a place, unless 256 statements were completed since the last answer; behind the last the block ends
@@ -128,10 +199,6 @@ turn_of program since memory (At block at level Timing) = Asks (request_of asks.
 
 abbrev pub main_block : BlockRef
 main_block = record { kind = Ob; number = 1 }
-
--- an organisation block begins on a level of its own
-abbrev pub level_of : ℕ → Level
-level_of ob = record { priority = priority_of ob }
 
 abbrev pub lost_note : Side → Loss → DiagCode
 lost_note side Failed = notes.LostFailed side
@@ -169,18 +236,19 @@ abbrev pub cycle_frame : Frame
 cycle_frame = record { place = AtCycle; kept = clear_registers }
 
 -- OB1 begins over the input image that was answered
-abbrev pub begins_main : Memory → List ℕ → Move
-begins_main memory image =
-    Calls (with_registers (with_inputs memory image) clear_registers) (At main_block 0 (level_of 1) Fresh) cycle_frame
+abbrev pub begins_main : Program → Memory → List ℕ → Move
+begins_main program memory image =
+    Calls (with_registers (with_inputs memory image) clear_registers) (At main_block 0 (level_of program 1) Fresh) cycle_frame
 
 -- a statement that asked for the moment is completed by it, or fails
-abbrev pub timed_outcome : BlockRef → ℕ → Level → Memory → Result Memory ℕ → Reaction
-timed_outcome block at level memory (Ok after) = Completes None (Goes after (At block (at + 1) level Fresh))
-timed_outcome block at level memory (Err error) = Completes (Some (notes.Error error)) (Goes memory (AtStop stops.NoOb121))
+abbrev pub timed_outcome : Program → BlockRef → ℕ → Level → Memory → Result Memory ℕ → Turn
+timed_outcome program block at level memory (Ok after) = Moves None (Goes after (At block (at + 1) level Fresh))
+timed_outcome program block at level memory (Err error) = fails program (At block (at + 1) level Fresh) level memory error
 
-abbrev pub timed_by : BlockRef → ℕ → Level → Mode → Memory → ℕ → Option Instruction → Reaction
-timed_by block at level mode memory moment (Some (Timed op n)) = timed_outcome block at level memory (effect_timed op n moment memory)
-timed_by block at level mode memory moment _ = Again None (Goes memory (At block at level mode))
+abbrev pub timed_by : Program → BlockRef → ℕ → Level → Mode → Memory → ℕ → Option Instruction → Reaction
+timed_by program block at level mode memory moment (Some (Timed op n)) =
+    Completes (timed_outcome program block at level memory (effect_timed op n moment memory))
+timed_by program block at level mode memory moment _ = Again None (Goes memory (At block at level mode))
 
 -- the instruction of a place
 abbrev pub instruction_if : Option Statement → Option Instruction
@@ -192,7 +260,7 @@ instruction_at program block at = instruction_if (slice_get (statements_of progr
 
 -- the moment is answered
 abbrev pub timed_at : Program → Memory → Place → ℕ → Reaction
-timed_at program memory (At block at level mode) moment = timed_by block at level mode memory moment (instruction_at program block at)
+timed_at program memory (At block at level mode) moment = timed_by program block at level mode memory moment (instruction_at program block at)
 timed_at program memory AtOutputs moment = Again None (Goes memory AtOutputs)
 timed_at program memory AtInputs moment = Again None (Goes memory AtInputs)
 timed_at program memory AtCycle moment = Again None (Goes memory AtCycle)
@@ -231,7 +299,7 @@ answered program memory place ask (answers.Back side) = Again (Some (notes.Back 
 answered program memory place ask answers.Hold = Again None (Goes memory (again ask place))
 answered program memory place ask (answers.CpuStop code) = Again (Some (notes.Stop code)) (Goes memory Over)
 answered program memory place (asks.Outputs image) answers.Done = Again None (Goes memory AtInputs)
-answered program memory place asks.Inputs (answers.Image image) = Again None (begins_main memory image)
+answered program memory place asks.Inputs (answers.Image image) = Again None (begins_main program memory image)
 answered program memory place asks.Cycle answers.Go = Again None (Goes memory AtOutputs)
 answered program memory place asks.Tick answers.Done = Again None (Goes memory (resumed place))
 answered program memory place asks.Now (answers.Now moment) = timed_at program memory place moment
@@ -239,6 +307,10 @@ answered program memory place (asks.Stop code) answers.Done = Again (Some (notes
 answered program memory place _ _ = Again None (Goes memory place)
 
 -- the recursion --
+
+-- at the end of a block, before any registers come back
+abbrev pub at_block_end : Memory → Memory
+at_block_end memory = with_status memory (effect_end memory.registers.status)
 
 -- a frame goes on, with the registers that it kept
 abbrev pub resume : Meaning → Frame → Rest → Rest
@@ -263,27 +335,48 @@ with_note all moment (Some code) = all ++ record { moment = moment; code = code 
 abbrev pub noting : State → Option DiagCode → State
 noting state note = record state { notes = with_note state.notes (state.taken - 1) note }
 
+-- from the moment of one beginning to that of the next
+abbrev pub cycle_length : ℕ → ℕ → ℕ
+cycle_length from to = if nat_lt (to - from) 32767 then to - from else 32767
+
+-- the output image was put out at a moment, so that a cycle begins
+abbrev pub cycle_begun : Cycles → ℕ → Cycles
+cycle_begun cycles moment =
+    record cycles { began_at = moment; last_length = if cycles.first_over then cycle_length cycles.began_at moment else 0 }
+
+-- the cycles after the answer of a moment
+abbrev pub cycles_after : Cycles → ℕ → Ask → Answer → Cycles
+cycles_after cycles moment (asks.Outputs image) answers.Done = cycle_begun cycles moment
+cycles_after cycles moment asks.Cycle answers.Go = record cycles { first_over = true }
+cycles_after cycles moment _ _ = cycles
+
 -- an answer was taken; answer k, counted from 0, stands at moment k
-abbrev pub took : State → State
-took state = record state { since = 0; taken = state.taken + 1 }
+abbrev pub took : State → Ask → Answer → State
+took state ask answer =
+    record state { since = 0; cycles = cycles_after state.cycles state.taken ask answer; taken = state.taken + 1 }
 
 abbrev pub reacts : Meaning → Rest → State → List Answer → Reaction → End
 reacts meaning rest state given (Again note move) = moves meaning rest (noting state note) given move
-reacts meaning rest state given (Completes note move) = moves meaning rest (completed (noting state note)) given move
+reacts meaning rest state given (Completes (Moves note move)) = moves meaning rest (completed (noting state note)) given move
+reacts meaning rest state given (Completes (Halts note memory code)) =
+    meaning (AtStop code) rest (completed (noting (record state { memory = memory }) note)) given
+reacts meaning rest state given (Completes (Asks request)) = Undefined
+reacts meaning rest state given (Completes Leaves) = Undefined
+reacts meaning rest state given (Completes Ends) = Undefined
 
 -- a place asks; answer k is taken at moment k, and one that does not fit there ends the evaluation
 abbrev pub asking : Meaning → Place → Request → Rest → State → List Answer → End
 asking meaning place request rest state [] = Waits request state
 asking meaning place request rest state (answer ∷ given) =
-    if takes_at state.taken request answer then reacts meaning rest (took state) given (answered state.program state.memory place request.ask answer)
+    if takes_at state.taken request answer then reacts meaning rest (took state request.ask answer) given (answered state.program state.memory place request.ask answer)
     else Undefined
 
 abbrev pub does : Meaning → Place → Rest → State → List Answer → Turn → End
 does meaning place rest state given (Asks request) = asking meaning place request rest state given
-does meaning place rest state given (Moves move) = moves meaning rest (completed state) given move
+does meaning place rest state given (Moves note move) = moves meaning rest (completed (noting state note)) given move
 does meaning place rest state given (Halts note memory code) =
-    asking meaning (AtStop code) (stop_request code) rest (noting (record state { memory = memory }) (Some note)) given
-does meaning place rest state given Leaves = rest state given
+    asking meaning (AtStop code) (stop_request code) rest (noting (record state { memory = memory }) note) given
+does meaning place rest state given Leaves = rest (record state { memory = at_block_end state.memory }) given
 does meaning place rest state given Ends = Stopped state
 
 -- one turn at a place, given what the places mean that it leads to
@@ -311,8 +404,12 @@ never state given = Undefined
 abbrev pub start_notes : List Note
 start_notes = record { moment = 0; code = notes.Start } ∷ []
 
+-- no cycle has begun
+abbrev pub start_cycles : Cycles
+start_cycles = record { began_at = 0; last_length = 0; first_over = false }
+
 abbrev pub start : Program → State
-start program = record { program = program; memory = start_memory; since = 0; notes = start_notes; taken = 0 }
+start program = record { program = program; memory = start_memory; since = 0; cycles = start_cycles; notes = start_notes; taken = 0 }
 
 -- what the standard CPU does with a program and answers
 abbrev pub std : Program → List Answer → End

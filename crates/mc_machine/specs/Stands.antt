@@ -1,5 +1,6 @@
 -- What it means that a machine stands for a program and the answers that it has taken.
-use Rattle.std.specs.Prelude.{◌≡◌, ◌≢◌, ℕ, suc, ◌+◌, ◌-◌, ◌*◌, false, List, [], ◌∷◌, ◌++◌, length, drop, Option, Some, None, IfSome, IsTrue, is_some, slice_get, flat_map}
+use Rattle.std.specs.Prelude.{◌≡◌, ◌≢◌, ℕ, suc, ◌+◌, ◌-◌, ◌*◌, false, List, [], ◌∷◌, ◌++◌, length, drop, Option, Some, None, IfSome, IsTrue, is_some, if◌then◌else◌, slice_get, flat_map, replicate}
+use Rattle.std.specs.Int.{bytes_high_first}
 use Rattle.s7_events.specs.declared.entry.Ask.{Ask}
 use Rattle.s7_events.specs.declared.entry.Ask.TheVariants as asks
 use Rattle.s7_events.specs.declared.entry.Request.{Request}
@@ -10,20 +11,15 @@ use Rattle.s7_events.specs.declared.diagnostics.Area.TheVariants.{I, Q, M, Db, T
 use Rattle.s7_base.specs.declared.blocks.BlockRef.{BlockRef}
 use Rattle.s7_base.specs.Blocks.{Program}
 use Rattle.statement_effects.specs.State.{Memory}
-use Rattle.mc_machine.specs.declared.places.Level.{Level}
-use Rattle.mc_machine.specs.declared.places.Mode.{Mode}
-use Rattle.mc_machine.specs.declared.places.Place.{Place}
-use Rattle.mc_machine.specs.declared.places.Place.TheVariants.{AtOutputs, AtInputs, AtCycle, AtStop, Over, At}
-use Rattle.mc_machine.specs.declared.places.Frame.{Frame}
-use Rattle.mc_machine.specs.declared.places.Note.{Note}
+use Rattle.mc_machine.specs.Places.{Level, Mode, Place, AtOutputs, AtInputs, AtCycle, AtStop, Over, At, Frame, Note}
 use Rattle.timers.specs.Bytes as timer_form
 use Rattle.counters.specs.Bytes as counter_form
 use Rattle.statement_effects.specs.Areas.{with_registers}
 use Rattle.statement_effects.specs.CounterEffect.{counter_at}
-use Rattle.mc_machine.specs.Meaning.{State, End, Waits, Stopped, Rest, Move, Goes, Calls, Reaction, Again, Completes, Turn, Asks, Moves, Halts, Leaves, Ends, stop_request, resume, body, takes, is_dated, stops_cpu, turn_of, never, std}
+use Rattle.mc_machine.specs.Meaning.{Cycles, State, End, Waits, Stopped, Rest, Move, Goes, Calls, Reaction, Again, Completes, Turn, Asks, Moves, Halts, Leaves, Ends, stop_request, at_block_end, resume, body, takes, is_dated, stops_cpu, turn_of, never, std}
 
 -- where a machine is: its program, its place, the frames under it, what the statements see, the statements completed
--- since the last answer, the moment of that answer, and the diagnostic entries that it keeps
+-- since the last answer, the moment of that answer, the cycles, and the diagnostic entries that it keeps
 pub record Config : Type 0 where
   pub program : Program
   pub place : Place
@@ -31,6 +27,7 @@ pub record Config : Type 0 where
   pub memory : Memory
   pub since : ℕ
   pub at : ℕ
+  pub cycles : Cycles
   pub diag : List Note
 
 -- the newest 120 entries, which a machine keeps
@@ -43,7 +40,7 @@ with_newest notes moment (Some code) = newest (notes ++ record { moment = moment
 
 -- the state of the CPU, with all its diagnostic entries and the number of answers taken
 abbrev pub state_of : Config → List Note → ℕ → State
-state_of c notes taken = record { program = c.program; memory = c.memory; since = c.since; notes = notes; taken = taken }
+state_of c notes taken = record { program = c.program; memory = c.memory; since = c.since; cycles = c.cycles; notes = notes; taken = taken }
 
 -- what is left of the frames: the last one first, and at last what follows them all
 abbrev pub rest_of : Rest → List Frame → Rest
@@ -63,30 +60,44 @@ pub record StandsFor (program : Program) (given : List Answer) (c : Config) : Ty
 
 -- the machine is where a move leads
 abbrev pub IsMoved : Move → Config → ℕ → ℕ → Option DiagCode → Config → Type 0
-IsMoved (Goes memory place) c since at note c' = c' ≡ record { program = c.program; place = place; frames = c.frames; memory = memory; since = since; at = at; diag = with_newest c.diag at note }
-IsMoved (Calls memory place frame) c since at note c' = c' ≡ record { program = c.program; place = place; frames = c.frames ++ frame ∷ []; memory = memory; since = since; at = at; diag = with_newest c.diag at note }
+IsMoved (Goes memory place) c since at note c' = c' ≡ record { program = c.program; place = place; frames = c.frames; memory = memory; since = since; at = at; cycles = c.cycles; diag = with_newest c.diag at note }
+IsMoved (Calls memory place frame) c since at note c' = c' ≡ record { program = c.program; place = place; frames = c.frames ++ frame ∷ []; memory = memory; since = since; at = at; cycles = c.cycles; diag = with_newest c.diag at note }
+
+-- the machine is where a turn leads that moves or halts, with so many statements completed
+abbrev pub IsTurned : Turn → Config → ℕ → ℕ → Config → Type 0
+IsTurned (Moves note move) c since at c' = IsMoved move c since at note c'
+IsTurned (Halts note memory code) c since at c' = IsMoved (Goes memory (AtStop code)) c since at note c'
+IsTurned (Asks request) c since at c' = ⊥
+IsTurned Leaves c since at c' = ⊥
+IsTurned Ends c since at c' = ⊥
+
+-- the request of a turn that halts
+abbrev pub halts_with : Turn → Option Request
+halts_with (Halts _ _ code) = Some (stop_request code)
+halts_with _ = None
 
 -- the machine has taken an answer at this moment
 abbrev pub Reacts : Reaction → Config → ℕ → Config → Type 0
 Reacts (Again note move) c moment c' = IsMoved move c 0 moment note c'
-Reacts (Completes note move) c moment c' = IsMoved move c 1 moment note c'
+Reacts (Completes turn) c moment c' = IsTurned turn c 1 moment c'
 
 -- the machine has taken a turn, or asks
 abbrev pub Follows : Turn → Config → Option Request → Config → Type 0
 Follows (Asks request) c asked c' = (asked ≡ Some request) × (c' ≡ c)
-Follows (Moves move) c asked c' = (asked ≡ None) × IsMoved move c (c.since + 1) c.at None c'
-Follows (Halts note memory code) c asked c' = (asked ≡ Some (stop_request code)) × (c' ≡ record { program = c.program; place = AtStop code; frames = c.frames; memory = memory; since = c.since; at = c.at; diag = with_newest c.diag c.at (Some note) })
-Follows Leaves c asked c' = (asked ≡ None) × (frame : Frame) × (c.frames ≡ c'.frames ++ frame ∷ []) × (c' ≡ record { program = c.program; place = frame.place; frames = c'.frames; memory = with_registers c.memory frame.kept; since = c.since; at = c.at; diag = c.diag })
+Follows (Moves note move) c asked c' = (asked ≡ None) × IsMoved move c (c.since + 1) c.at note c'
+Follows (Halts note memory code) c asked c' = (asked ≡ Some (stop_request code)) × IsMoved (Goes memory (AtStop code)) c c.since c.at note c'
+Follows Leaves c asked c' = (asked ≡ None) × (frame : Frame) × (c.frames ≡ c'.frames ++ frame ∷ []) × (c' ≡ record { program = c.program; place = frame.place; frames = c'.frames; memory = with_registers (at_block_end c.memory) frame.kept; since = c.since; at = c.at; cycles = c.cycles; diag = c.diag })
 Follows Ends c asked c' = ⊥
 
--- how many frames may lie under a place that runs: a block has one under it, that of the cycle
+-- how many frames lie under a place: a block has one under it, that of the cycle, and an error OB has that of the block
+-- that failed too
 abbrev pub IsHigh : ℕ → Place → Type 0
 IsHigh n AtOutputs = n ≡ 0
 IsHigh n AtInputs = n ≡ 0
 IsHigh n AtCycle = n ≡ 0
 IsHigh n (AtStop code) = Unit {0}
 IsHigh n Over = ⊥
-IsHigh n (At block at level mode) = n ≡ 1
+IsHigh n (At block at level mode) = n ≡ (if level.in_error then 2 else 1)
 
 -- each frame has as many under it as its place may have
 abbrev pub AreStacked : ℕ → List Frame → Type 0
@@ -193,9 +204,13 @@ CanTake machine answer = OfRunning machine (λ running. IsTaken running.waits an
 abbrev pub Stands : Program → List Answer → Option Running → Type 0
 Stands program given machine = OfRunning machine (λ running. StandsFor program given running.config)
 
--- what it shows of a CPU's state: what the statements see, and the newest diagnostic entries
+-- what it shows of a CPU's state: what the statements see, the count of statements, the moment of the last answer, the
+-- cycles, and the newest diagnostic entries
 pub record Shows (running : Running) (state : State) : Type 0 where
   pub memory : running.config.memory ≡ state.memory
+  pub since : running.config.since ≡ state.since
+  pub at : running.config.at ≡ state.taken - 1
+  pub cycles : running.config.cycles ≡ state.cycles
   pub diag : running.config.diag ≡ newest state.notes
 
 -- the CPU waits at this request after these answers, in a state that the machine shows
@@ -208,20 +223,31 @@ abbrev pub CpuStopped : Program → List Answer → Option Running → Type 0
 CpuStopped program given machine =
     OfRunning machine (λ running. (state : State) × (std program given ≡ Stopped state) × Shows running state)
 
+-- the bytes of the registers, in 256: the moment of the last answer in 8, the statements completed since then in 4, the
+-- moment at which the last cycle began in 8, the length of the one before in 2, whether the first one is over, the number
+-- of diagnostic entries that are kept, and 0; the highest byte first
+abbrev pub register_head : Config → List ℕ
+register_head c =
+    bytes_high_first 8 c.at ++ bytes_high_first 4 c.since ++ bytes_high_first 8 c.cycles.began_at ++ bytes_high_first 2 c.cycles.last_length
+    ++ (if c.cycles.first_over then 1 else 0) ∷ length c.diag ∷ []
+
+abbrev pub register_bytes : Config → List ℕ
+register_bytes c = register_head c ++ replicate 232 0
+
 -- the bytes of an area; no data block is loaded yet
-abbrev pub area_bytes : Memory → Area → List ℕ
-area_bytes memory I = memory.inputs
-area_bytes memory Q = memory.outputs
-area_bytes memory M = memory.flags
-area_bytes memory (Db number) = []
-area_bytes memory Timers = flat_map timer_form.bytes_of memory.timers
-area_bytes memory Counters = flat_map counter_form.bytes_of memory.counters
-area_bytes memory Registers = []
+abbrev pub area_bytes : Config → Area → List ℕ
+area_bytes c I = c.memory.inputs
+area_bytes c Q = c.memory.outputs
+area_bytes c M = c.memory.flags
+area_bytes c (Db number) = []
+area_bytes c Timers = flat_map timer_form.bytes_of c.memory.timers
+area_bytes c Counters = flat_map counter_form.bytes_of c.memory.counters
+area_bytes c Registers = register_bytes c
 
 -- the byte of an area at an address, if there is one
 abbrev pub byte_of : Option Running → Area → ℕ → Option ℕ
 byte_of None area at_byte = None
-byte_of (Some running) area at_byte = slice_get (area_bytes running.config.memory area) at_byte
+byte_of (Some running) area at_byte = slice_get (area_bytes running.config area) at_byte
 
 -- the value of a counter
 abbrev pub counter_of : Option Running → ℕ → ℕ

@@ -4,10 +4,10 @@ ghost use Rattle.timers.specs.Bytes as timer_form;
 ghost use Rattle.counters.specs.Bytes as counter_form;
 ghost use Rattle.std.specs.Option.{option_map};
 ghost use Rattle.s7_base.specs.Blocks.{Program, IsPlayable};
+ghost use Rattle.mc_machine.specs.EngineView.{config_of};
 ghost use Rattle.mc_machine.specs.Stands.{IsIdle, IsRunning, CanAsk, CanTake, IsDated, CanGoOn, IsAsked, HasStopped, WaitsAt, Stands, CpuWaits, CpuStopped, area_bytes, OfRunning, HasSizes, byte_of, counter_of, notes_of};
 
 use crate::engine::Engine;
-use crate::Place;
 use s7_base::{Answer, Area, Blocks, DiagCode, NoMemory, Request};
 use statement_effects::{ByteArea, Memory};
 use std::alloc::Global;
@@ -23,13 +23,13 @@ impl Model for Machine {
     ghost use Rattle.std.specs.Prelude.{Option, IfSome};
     ghost use Rattle.std.specs.Option.{option_map};
     ghost use Rattle.mc_machine.specs.Stands.{Running, IsValid};
-    ghost use Rattle.mc_machine.specs.EngineView.{running_of};
+    ghost use Rattle.mc_machine.specs.EngineView.{running_of, IsStored};
 
     ghost Value = { Option Running };
 
     ghost view = { λ m. option_map running_of m.engine };
 
-    ghost invariant = { λ m. IfSome m.engine (λ engine. IsValid (running_of engine)) };
+    ghost invariant = { λ m. IfSome m.engine (λ engine. IsValid (running_of engine) × IsStored engine) };
 }
 
 impl Machine {
@@ -63,7 +63,7 @@ impl Machine {
         ensures stops { HasStopped self.now → (program : Program) (given : List Answer) → Stands program given self.now → CpuStopped program given self.now }
     {
         match &self.engine {
-            Some(engine) => matches!(engine.place(), Place::Over),
+            Some(engine) => engine.is_over(),
             None => false,
         }
     }
@@ -107,7 +107,7 @@ impl Machine {
         ensures sizes { OfRunning self.now (λ running. HasSizes running.config.memory) }
     {
         match &self.engine {
-            Some(engine) => area_byte(engine.memory(), area, at_byte),
+            Some(engine) => area_byte(engine, area, at_byte),
             None => None,
         }
     }
@@ -193,10 +193,11 @@ fn show_sizes(memory: &Memory)
 }
 
 /// The byte of an area.
-fn area_byte(memory: &Memory, area: Area, at_byte: u16) -> Option<u8>
-    ensures byte { result ≡ slice_get (area_bytes memory.now area) at_byte }
-    ensures sizes { HasSizes memory.now }
+fn area_byte(engine: &Engine, area: Area, at_byte: u16) -> Option<u8>
+    ensures byte { result ≡ slice_get (area_bytes (config_of engine.now) area) at_byte }
+    ensures sizes { HasSizes (config_of engine.now).memory }
 {
+    let memory = engine.memory();
     show_sizes(memory);
     let at = at_byte as usize;
     match area {
@@ -205,6 +206,7 @@ fn area_byte(memory: &Memory, area: Area, at_byte: u16) -> Option<u8>
         Area::M => memory.byte(ByteArea::M, at),
         Area::Timers => timer_byte(memory, at),
         Area::Counters => counter_byte(memory, at),
-        Area::Db(_) | Area::Registers => None,
+        Area::Registers => engine.register_byte(at),
+        Area::Db(_) => None,
     }
 }

@@ -1,25 +1,26 @@
 //! What a running machine holds: it runs from request to request.
-ghost use Rattle.std.specs.Prelude.{◌≡◌, ◌≢◌, ℕ, ◌+◌, ◌-◌, ◌<◌, ◌≤◌, ◌++◌, ◌∷◌, [], List, length, slice_get, IsTrue, IfSome, OnSome, ◌^◌, false, Option, Some, None};
+ghost use Rattle.std.specs.Prelude.{◌≡◌, ◌≢◌, ℕ, ◌+◌, ◌-◌, ◌<◌, ◌≤◌, ◌++◌, ◌∷◌, [], List, length, slice_get, replicate, IsTrue, IfSome, OnSome, ◌^◌, true, false, Option, Some, None};
 ghost use Rattle.s7_base.specs.Blocks.{Program};
 ghost use Rattle.s7_events.specs.declared.entry.Answer.{Answer};
 ghost use Rattle.s7_base.specs.declared.blocks.BlockRef.{BlockRef};
-ghost use Rattle.mc_machine.specs.Meaning.{statements_of, turn_of, runs, flows, jump_among, answered, takes, stops_cpu, begins_main, main_block, level_of, cycle_frame, lost_note, again_mode, again, resumed, timed_at, instruction_at, Leaves, Waits, Stopped, std, request_of, stop_request};
-ghost use Rattle.mc_machine.specs.Stands.{Running, state_of, newest, with_newest, StandsFor, IsMoved, Reacts, Follows, IsHigh, IsSound, IsValid, IsAskedAt, AsksAt, Keeps, IsTaken, IsDated, IsAsked, GoesOn};
+ghost use Rattle.mc_machine.specs.Meaning.{error_registers, fails, turn_of, flows, jump_among, cycle_length, cycles_after, answered, takes, stops_cpu, begins_main, lost_note, again_mode, again, resumed, timed_at, Leaves, Waits, std, request_of, stop_request};
+ghost use Rattle.mc_machine.specs.Stands.{Running, state_of, newest, with_newest, StandsFor, IsMoved, IsTurned, halts_with, Reacts, Follows, register_head, register_bytes, IsHigh, AreStacked, IsSound, IsValid, IsAskedAt, AsksAt, Keeps, IsTaken, IsDated, IsAsked, GoesOn};
+ghost use Rattle.mc_machine.specs.Places.{AtInputs, Over, At, Fresh};
+ghost use Rattle.mc_machine.specs.EngineView.{level_in, mode_of, place_of, frame_of, config_of, running_of, IsCode, IsIndexed, AreIndexed, IsStored};
 ghost use Rattle.s7_events.specs.declared.entry.Ask.{Ask};
-ghost use Rattle.mc_machine.specs.EngineView.{config_of, running_of};
 
-use crate::{Frame, Level, Mode, Note, Place};
+use crate::codes::{code_index, end_of, instruction_in, statement_at};
+use crate::levels::{error_level, error_ob, error_registers, main_level};
+use crate::places::{BlockSpot, Frame, Level, Mode, Note, Spot};
 use arrayvec::ArrayVec;
-use s7_base::{
-    Answer, Ask, BlockRef, Blocks, CodeKind, DiagCode, Loss, Request, Side, Statement, StopCode,
-};
-use statement_effects::{Flow, Instruction, Memory, Registers, instruction_of};
+use s7_base::{Answer, Ask, BlockRef, Blocks, CodeKind, DiagCode, Loss, Request, Side, StopCode};
+use statement_effects::{Flow, Instruction, Memory, Registers};
 
 /// How many diagnostic entries are kept.
 const KEPT_NOTES: usize = 120;
 
-/// How many frames there are: that of the cycle, under OB1.
-const FRAMES: usize = 1;
+/// How many frames there are: that of the cycle, under OB1, and that of OB1 under its error OB.
+const FRAMES: usize = 2;
 
 /// The place of a machine, what its statements see, and the frames under it.
 #[derive(Debug, Drop)]
@@ -28,49 +29,20 @@ pub struct Engine {
     memory: Memory,
     since: u16,
     at: u64,
-    place: Place,
+    /// The moment at which the last cycle began.
+    began_at: u64,
+    /// How long the cycle before took, in milliseconds.
+    last_length: u16,
+    /// Whether the first cycle is over.
+    first_over: bool,
+    spot: Spot,
     frames: ArrayVec<Frame, FRAMES>,
     diag: ArrayVec<Note, KEPT_NOTES>,
     waits: Option<Request>,
 }
 
-const MAIN: BlockRef = BlockRef {
-    kind: CodeKind::Ob,
-    number: 1,
-};
-
 /// The priority of a request to stop.
 const STOP_PRIORITY: u8 = 30;
-
-/// The statement at a place of a block.
-fn statement_at(program: &Blocks, block: BlockRef, at: usize) -> Option<Statement>
-    ensures found { result ≡ slice_get (statements_of program.now block) at }
-    ensures within { OnSome result (at + 1 < 2 ^ 64) }
-{
-    match program.code(block.kind, block.number) {
-        Some(code) => code.statements().get(at).copied(),
-        None => None,
-    }
-}
-
-/// The instruction at a place of a block.
-fn instruction_in(program: &Blocks, block: BlockRef, at: usize) -> Option<Instruction>
-    ensures found { result ≡ instruction_at program.now block at }
-    ensures within { OnSome result (at + 1 < 2 ^ 64) }
-{
-    let statement = statement_at(program, block, at)?;
-    instruction_of(&statement)
-}
-
-/// The number of statements of a block, the place of its end.
-fn end_of(program: &Blocks, block: BlockRef) -> usize
-    ensures { result ≡ length (statements_of program.now block) }
-{
-    match program.code(block.kind, block.number) {
-        Some(code) => code.statements().len(),
-        None => 0,
-    }
-}
 
 /// The jump of a number of those that follow a place, or past the last of them the target.
 fn jump_among(at: usize, number: u8, target: u32) -> usize
@@ -79,6 +51,28 @@ fn jump_among(at: usize, number: u8, target: u32) -> usize
 {
     let chosen = (at + 1).saturating_add(number as usize);
     chosen.min(target as usize)
+}
+
+/// The byte of a list at a place, if there is one.
+fn byte_of(bytes: &[u8], at: usize) -> Option<u8>
+    ensures { result ≡ slice_get bytes.now at }
+{
+    bytes.get(at).copied()
+}
+
+/// A byte of those of the registers that are always 0.
+fn zero_at(at: usize) -> Option<u8>
+    ensures { result ≡ slice_get (replicate 232 0) at }
+{
+    byte_of(&[0; 232], at)
+}
+
+/// From the moment of one beginning of a cycle to that of the next.
+fn cycle_length(from: u64, to: u64) -> u16
+    ensures { result ≡ cycle_length from to }
+{
+    let length = to.saturating_sub(from);
+    if length < 32767 { length as u16 } else { 32767 }
 }
 
 fn lost_code(side: Side, why: Loss) -> DiagCode
@@ -102,9 +96,38 @@ fn stop_request(code: StopCode) -> Request
     request(Ask::Stop(code), STOP_PRIORITY)
 }
 
+/// The request of a block, with the priority of its level.
+fn block_request(ask: Ask, level: Level) -> Request
+    ensures { result ≡ request_of ask (level_in level).priority }
+{
+    request(ask, level.priority)
+}
+
+/// Another statement of a block, to which it comes anew.
+fn at_statement(spot: BlockSpot, at: usize) -> Spot
+    ensures place { place_of result ≡ At spot.block at (level_in spot.level) Fresh }
+    ensures indexed { (program : Program) → IsCode program spot.code spot.block → IsIndexed program result }
+{
+    Spot::At(BlockSpot {
+        at,
+        mode: Mode::Fresh,
+        ..spot
+    })
+}
+
+/// The organisation block of a number.
+fn ob(number: u8) -> BlockRef
+    ensures { result ≡ record { kind = CodeKind.Ob; number = number } }
+{
+    BlockRef {
+        kind: CodeKind::Ob,
+        number,
+    }
+}
+
 /// How a block makes a request again.
 fn again_mode(ask: &Ask, mode: Mode) -> Mode
-    ensures { result ≡ again_mode ask.now mode }
+    ensures { mode_of result ≡ again_mode ask.now (mode_of mode) }
 {
     match ask {
         Ask::Tick => Mode::Ticking,
@@ -117,7 +140,8 @@ impl Engine {
     /// The CPU at the start of its first cycle.
     pub fn start(program: Blocks) -> Engine
         ensures valid { IsValid (running_of result) }
-        ensures going { (config_of result).place ≢ Place.Over }
+        ensures stored { IsStored result }
+        ensures going { (config_of result).place ≢ Over }
         ensures stands { StandsFor program [] (config_of result) }
     {
         let mut diag = ArrayVec::new();
@@ -130,17 +154,22 @@ impl Engine {
             memory: Memory::start(),
             since: 0,
             at: 0,
-            place: Place::AtOutputs,
+            began_at: 0,
+            last_length: 0,
+            first_over: false,
+            spot: Spot::AtOutputs,
             frames: ArrayVec::new(),
             diag,
             waits: None,
         }
     }
 
-    pub fn place(&self) -> Place
-        ensures { result ≡ (config_of self.now).place }
+    /// Whether the CPU has stopped.
+    pub fn is_over(&self) -> bool
+        ensures over { IsTrue result → (config_of self.now).place ≡ Over }
+        ensures going { result ≡ false → (config_of self.now).place ≢ Over }
     {
-        self.place
+        matches!(self.spot, Spot::Over)
     }
 
     pub fn memory(&self) -> &Memory
@@ -156,14 +185,44 @@ impl Engine {
         self.diag.as_slice()
     }
 
+    /// The bytes of the registers, but for those that are always 0.
+    fn register_head(&self) -> [u8; 24]
+        ensures { result ≡ register_head (config_of self.now) }
+    {
+        let [a7, a6, a5, a4, a3, a2, a1, a0] = self.at.to_be_bytes();
+        let [s3, s2, s1, s0] = u32::from(self.since).to_be_bytes();
+        let [b7, b6, b5, b4, b3, b2, b1, b0] = self.began_at.to_be_bytes();
+        let [l1, l0] = self.last_length.to_be_bytes();
+        let over = if self.first_over { 1 } else { 0 };
+        let notes = self.diag.len() as u8;
+        [
+            a7, a6, a5, a4, a3, a2, a1, a0, s3, s2, s1, s0, b7, b6, b5, b4, b3, b2, b1, b0, l1, l0,
+            over, notes,
+        ]
+    }
+
+    /// The byte of the registers at a place; there are 256.
+    #[tactic(auto, using(crate::proofs::AreaBytes::front_byte))]
+    pub fn register_byte(&self, at: usize) -> Option<u8>
+        ensures { result ≡ slice_get (register_bytes (config_of self.now)) at }
+    {
+        let head = self.register_head();
+        if at < 24 {
+            return head.get(at).copied();
+        }
+        zero_at(at - 24)
+    }
+
     /// Runs to the next request. Asked again, it answers the same.
     pub fn ask(&mut self) -> Request
         requires valid { IsValid (running_of self.old) }
-        requires going { (config_of self.old).place ≢ Place.Over }
+        requires stored { IsStored self.old }
+        requires going { (config_of self.old).place ≢ Over }
         ensures valid { IsValid (running_of self.new) }
+        ensures stored { IsStored self.new }
         ensures waits { (running_of self.new).waits ≡ Some result }
         ensures same { IfSome (running_of self.old).waits (λ request. (result ≡ request) × (self.new ≡ self.old)) }
-        ensures going { (config_of self.new).place ≢ Place.Over }
+        ensures going { (config_of self.new).place ≢ Over }
         ensures asked { IsAsked result.ask }
         ensures keeps { Keeps (config_of self.old) (config_of self.new) }
         // it asks what the CPU asks
@@ -181,7 +240,9 @@ impl Engine {
     /// Turns up to the next request.
     fn run_on(&mut self) -> Request
         requires sound { IsSound (config_of self.old) }
+        requires stored { IsStored self.old }
         ensures sound { IsSound (config_of self.new) }
+        ensures stored { IsStored self.new }
         ensures asks { AsksAt (config_of self.new) result }
         ensures keeps { Keeps (config_of self.old) (config_of self.new) }
     {
@@ -195,9 +256,11 @@ impl Engine {
     /// Takes the answer to the request at which it waits.
     pub fn take(&mut self, answer: &Answer, moment: u64)
         requires valid { IsValid (running_of self.old) }
+        requires stored { IsStored self.old }
         requires fits { IsTaken (running_of self.old).waits answer.now }
         ensures valid { IsValid (running_of self.new) }
-        ensures going { GoesOn (running_of self.old).waits answer.now → (config_of self.new).place ≢ Place.Over }
+        ensures stored { IsStored self.new }
+        ensures going { GoesOn (running_of self.old).waits answer.now → (config_of self.new).place ≢ Over }
         // it stands for the CPU after this answer too
         ensures stands { (program : Program) (given : List Answer) → moment ≡ length given → IsDated moment answer.now
             → StandsFor program given (config_of self.old) → StandsFor program (given ++ answer.now ∷ []) (config_of self.new) }
@@ -207,18 +270,41 @@ impl Engine {
         };
         self.since = 0;
         self.at = moment;
+        self.count_cycle(&request.ask, answer, moment);
         self.react(request, answer);
+    }
+
+    /// A cycle begins when its output image has been put out, and ends with Go.
+    fn count_cycle(&mut self, ask: &Ask, answer: &Answer, moment: u64)
+        ensures stored { IsStored self.old → IsStored self.new }
+        ensures counted { config_of self.new ≡ record (config_of self.old) { cycles = cycles_after (config_of self.old).cycles moment ask.now answer.now } }
+        ensures waits { self.new.waits ≡ self.old.waits }
+    {
+        match (ask, answer) {
+            (Ask::Outputs(_), Answer::Done) => {
+                self.last_length = if self.first_over {
+                    cycle_length(self.began_at, moment)
+                } else {
+                    0
+                };
+                self.began_at = moment;
+            }
+            (Ask::Cycle, Answer::Go) => self.first_over = true,
+            _ => {}
+        }
     }
 
     /// What the answer to a request does.
     fn react(&mut self, request: Request, answer: &Answer)
         requires sound { IsSound (config_of self.old) }
-        requires asked { IsAskedAt self.old.place request.ask }
+        requires stored { IsStored self.old }
+        requires asked { IsAskedAt (config_of self.old).place request.ask }
         requires fits { IsTrue (takes request answer.now) }
         requires fresh { self.old.since ≡ 0 }
-        ensures reacts { Reacts (answered self.old.program self.old.memory self.old.place request.ask answer.now) (config_of self.old) self.old.at (config_of self.new) }
-        ensures sound { self.new.place ≢ Place.Over → IsSound (config_of self.new) }
-        ensures going { stops_cpu request.ask answer.now ≡ false → self.new.place ≢ Place.Over }
+        ensures reacts { Reacts (answered self.old.program self.old.memory (config_of self.old).place request.ask answer.now) (config_of self.old) self.old.at (config_of self.new) }
+        ensures sound { (config_of self.new).place ≢ Over → IsSound (config_of self.new) }
+        ensures stored { IsStored self.new }
+        ensures going { stops_cpu request.ask answer.now ≡ false → (config_of self.new).place ≢ Over }
         ensures waits { self.new.waits ≡ self.old.waits }
     {
         match (request.ask, answer) {
@@ -226,9 +312,9 @@ impl Engine {
             (ask, Answer::Back { side }) => self.repeat(&ask, Some(DiagCode::Back(*side))),
             (ask, Answer::Hold) => self.repeat(&ask, None),
             (_, Answer::CpuStop(code)) => self.end(*code),
-            (Ask::Outputs(_), Answer::Done) => self.place = Place::AtInputs,
+            (Ask::Outputs(_), Answer::Done) => self.spot = Spot::AtInputs,
             (Ask::Inputs, Answer::Image(image)) => self.begin_main(*image),
-            (Ask::Cycle, Answer::Go) => self.place = Place::AtOutputs,
+            (Ask::Cycle, Answer::Go) => self.spot = Spot::AtOutputs,
             (Ask::Tick, Answer::Done) => self.resume_block(),
             (Ask::Now, Answer::Now(moment)) => self.time(*moment),
             (Ask::Stop(code), Answer::Done) => self.end(code),
@@ -239,67 +325,80 @@ impl Engine {
     /// The request is made again, perhaps behind a diagnostic entry.
     fn repeat(&mut self, ask: &Ask, code: Option<DiagCode>)
         requires sound { IsSound (config_of self.old) }
-        ensures repeated { config_of self.new ≡ record (config_of self.old) { place = again ask.now self.old.place; diag = with_newest self.old.diag.items self.old.at code } }
+        requires stored { IsStored self.old }
+        ensures repeated { config_of self.new ≡ record (config_of self.old) { place = again ask.now (config_of self.old).place; diag = with_newest self.old.diag.items self.old.at code } }
         ensures sound { IsSound (config_of self.new) }
+        ensures stored { IsStored self.new }
         ensures waits { self.new.waits ≡ self.old.waits }
     {
         if let Some(code) = code {
             self.note(code);
         }
-        if let Place::At(block, at, level, mode) = self.place {
-            self.place = Place::At(block, at, level, again_mode(ask, mode));
+        if let Spot::At(spot) = self.spot {
+            self.spot = Spot::At(BlockSpot {
+                mode: again_mode(ask, spot.mode),
+                ..spot
+            });
         }
     }
 
     /// The block goes on with its statement.
     fn resume_block(&mut self)
         requires sound { IsSound (config_of self.old) }
-        ensures moved { config_of self.new ≡ record (config_of self.old) { place = resumed self.old.place } }
+        requires stored { IsStored self.old }
+        ensures moved { config_of self.new ≡ record (config_of self.old) { place = resumed (config_of self.old).place } }
         ensures sound { IsSound (config_of self.new) }
+        ensures stored { IsStored self.new }
         ensures waits { self.new.waits ≡ self.old.waits }
     {
-        if let Place::At(block, at, level, _) = self.place {
-            self.place = Place::At(block, at, level, Mode::Fresh);
+        if let Spot::At(spot) = self.spot {
+            self.spot = Spot::At(BlockSpot {
+                mode: Mode::Fresh,
+                ..spot
+            });
         }
     }
 
     /// The statement that asked for the moment is completed by it, or fails.
     fn time(&mut self, moment: u64)
         requires sound { IsSound (config_of self.old) }
-        requires going { self.old.place ≢ Place.Over }
+        requires stored { IsStored self.old }
+        requires going { (config_of self.old).place ≢ Over }
         requires fresh { self.old.since ≡ 0 }
-        ensures timed { Reacts (timed_at self.old.program self.old.memory self.old.place moment) (config_of self.old) self.old.at (config_of self.new) }
+        ensures timed { Reacts (timed_at self.old.program self.old.memory (config_of self.old).place moment) (config_of self.old) self.old.at (config_of self.new) }
         ensures sound { IsSound (config_of self.new) }
-        ensures going { self.new.place ≢ Place.Over }
+        ensures stored { IsStored self.new }
+        ensures going { (config_of self.new).place ≢ Over }
         ensures waits { self.new.waits ≡ self.old.waits }
     {
-        let Place::At(block, at, level, _) = self.place else {
+        let Spot::At(spot) = self.spot else {
             return;
         };
-        let Some(Instruction::Timed(op, n)) = instruction_in(&self.program, block, at) else {
+        let Some(Instruction::Timed(op, n)) = instruction_in(&self.program, spot) else {
             return;
         };
         match self.memory.execute_timed(op, n, moment) {
-            Ok(()) => self.place = Place::At(block, at + 1, level, Mode::Fresh),
-            Err(error) => {
-                self.note(DiagCode::Error(error));
-                self.place = Place::AtStop(StopCode::NoOb121);
+            Ok(()) => {
+                self.spot = at_statement(spot, spot.at + 1);
+                self.since = 1;
             }
+            Err(error) => self.fail_answered(error, spot),
         }
-        self.since = 1;
     }
 
     /// The CPU stops.
     fn end(&mut self, code: StopCode)
-        ensures ended { config_of self.new ≡ record (config_of self.old) { place = Place.Over; diag = with_newest self.old.diag.items self.old.at (Some (DiagCode.Stop code)) } }
+        ensures stored { IsStored self.old → IsStored self.new }
+        ensures ended { config_of self.new ≡ record (config_of self.old) { place = Over; diag = with_newest self.old.diag.items self.old.at (Some (DiagCode.Stop code)) } }
         ensures waits { self.new.waits ≡ self.old.waits }
     {
         self.note(DiagCode::Stop(code));
-        self.place = Place::Over;
+        self.spot = Spot::Over;
     }
 
     /// Makes a diagnostic entry, and drops the oldest where there is no room.
     fn note(&mut self, code: DiagCode)
+        ensures stored { IsStored self.old → IsStored self.new }
         ensures noted { config_of self.new ≡ record (config_of self.old) { diag = with_newest self.old.diag.items self.old.at (Some code) } }
         ensures waits { self.new.waits ≡ self.old.waits }
     {
@@ -315,101 +414,217 @@ impl Engine {
     /// OB1 begins over the input image.
     fn begin_main(&mut self, image: [u8; 64])
         requires sound { IsSound (config_of self.old) }
-        requires here { self.old.place ≡ Place.AtInputs }
-        ensures moved { IsMoved (begins_main self.old.memory image) (config_of self.old) self.old.since self.old.at None (config_of self.new) }
+        requires stored { IsStored self.old }
+        requires here { (config_of self.old).place ≡ AtInputs }
+        ensures moved { IsMoved (begins_main self.old.program self.old.memory image) (config_of self.old) self.old.since self.old.at None (config_of self.new) }
         ensures sound { IsSound (config_of self.new) }
+        ensures stored { IsStored self.new }
         ensures waits { self.new.waits ≡ self.old.waits }
     {
+        let level = main_level(&self.program);
         self.memory.set_inputs(image);
         self.memory.set_registers(Registers::clear());
-        self.frames.push(Frame {
-            place: Place::AtCycle,
+        let frame = Frame {
+            spot: Spot::AtCycle,
             kept: Registers::clear(),
-        });
-        self.place = Place::At(MAIN, 0, Level { priority: 1 }, Mode::Fresh);
+        };
+        self.begin(ob(1), level, frame);
     }
 
     /// One turn: a statement, the end of a block, or the request that the place asks.
     fn step(&mut self) -> Option<Request>
-        requires { IsSound (config_of self.old) }
-        ensures turned { Follows (turn_of self.old.program self.old.since self.old.memory self.old.place) (config_of self.old) result (config_of self.new) }
+        requires sound { IsSound (config_of self.old) }
+        requires stored { IsStored self.old }
+        ensures turned { Follows (turn_of self.old.program self.old.since self.old.memory (config_of self.old).place) (config_of self.old) result (config_of self.new) }
         ensures sound { IsSound (config_of self.new) }
+        ensures stored { IsStored self.new }
     {
-        match self.place {
-            Place::AtOutputs => Some(request(Ask::Outputs(self.memory.outputs()), 1)),
-            Place::AtInputs => Some(request(Ask::Inputs, 1)),
-            Place::AtCycle => Some(request(Ask::Cycle, 1)),
-            Place::AtStop(code) => Some(stop_request(code)),
-            Place::Over => unreachable!(),
-            Place::At(_, _, level, Mode::Timing) => Some(request(Ask::Now, level.priority)),
-            Place::At(_, _, level, Mode::Ticking) => Some(request(Ask::Tick, level.priority)),
-            Place::At(block, at, level, Mode::Fresh) => self.run(block, at, level),
+        match self.spot {
+            Spot::AtOutputs => Some(request(Ask::Outputs(self.memory.outputs()), 1)),
+            Spot::AtInputs => Some(request(Ask::Inputs, 1)),
+            Spot::AtCycle => Some(request(Ask::Cycle, 1)),
+            Spot::AtStop(code) => Some(stop_request(code)),
+            Spot::Over => unreachable!(),
+            Spot::At(spot) => self.act(spot),
         }
     }
 
     /// One turn in a block.
-    fn run(&mut self, block: BlockRef, at: usize, level: Level) -> Option<Request>
+    fn act(&mut self, spot: BlockSpot) -> Option<Request>
         requires sound { IsSound (config_of self.old) }
-        requires here { self.old.place ≡ Place.At block at level Mode.Fresh }
-        ensures turned { Follows (turn_of self.old.program self.old.since self.old.memory self.old.place) (config_of self.old) result (config_of self.new) }
+        requires stored { IsStored self.old }
+        requires here { self.old.spot ≡ Spot.At spot }
+        ensures turned { Follows (turn_of self.old.program self.old.since self.old.memory (config_of self.old).place) (config_of self.old) result (config_of self.new) }
         ensures sound { IsSound (config_of self.new) }
+        ensures stored { IsStored self.new }
     {
-        let Some(statement) = statement_at(&self.program, block, at) else {
+        match spot.mode {
+            Mode::Timing => Some(block_request(Ask::Now, spot.level)),
+            Mode::Ticking => Some(block_request(Ask::Tick, spot.level)),
+            Mode::Fresh => self.run(spot),
+        }
+    }
+
+    /// The statement of a place, or the end of its block.
+    #[tactic(auto, using(crate::proofs::Sound::high_some))]
+    fn run(&mut self, spot: BlockSpot) -> Option<Request>
+        requires sound { IsSound (config_of self.old) }
+        requires stored { IsStored self.old }
+        requires here { (config_of self.old).place ≡ At spot.block spot.at (level_in spot.level) Fresh }
+        requires code { IsCode self.old.program spot.code spot.block }
+        ensures turned { Follows (turn_of self.old.program self.old.since self.old.memory (config_of self.old).place) (config_of self.old) result (config_of self.new) }
+        ensures sound { IsSound (config_of self.new) }
+        ensures stored { IsStored self.new }
+    {
+        let Some(statement) = statement_at(&self.program, spot) else {
             self.leave();
             return None;
         };
         if self.since >= 256 {
-            return Some(request(Ask::Tick, level.priority));
+            return Some(block_request(Ask::Tick, spot.level));
         }
         let flow = self.memory.perform(&statement);
-        self.follow(block, at, level, flow)
+        self.follow(spot, flow)
     }
 
     /// Goes where a statement leads.
-    fn follow(&mut self, block: BlockRef, at: usize, level: Level, flow: Flow) -> Option<Request>
+    fn follow(&mut self, spot: BlockSpot, flow: Flow) -> Option<Request>
         requires sound { IsSound (config_of self.old) }
-        requires here { self.old.place ≡ Place.At block at level Mode.Fresh }
+        requires stored { IsStored self.old }
+        requires here { (config_of self.old).place ≡ At spot.block spot.at (level_in spot.level) Fresh }
+        requires code { IsCode self.old.program spot.code spot.block }
         requires before { self.old.since < 256 }
-        requires within { at + 1 < 2 ^ 64 }
-        ensures turned { Follows (flows self.old.program block at level self.old.memory flow) (config_of self.old) result (config_of self.new) }
+        requires within { spot.at + 1 < 2 ^ 64 }
+        ensures turned { Follows (flows self.old.program spot.block spot.at (level_in spot.level) self.old.memory flow) (config_of self.old) result (config_of self.new) }
         ensures sound { IsSound (config_of self.new) }
+        ensures stored { IsStored self.new }
     {
         let next = match flow {
-            Flow::Next => at + 1,
+            Flow::Next => spot.at + 1,
             Flow::Jump(target) => target as usize,
-            Flow::Among { number, target } => jump_among(at, number, target),
-            Flow::End => end_of(&self.program, block),
-            Flow::Fail(error) => return Some(self.fail(error)),
-            Flow::AskNow => return Some(request(Ask::Now, level.priority)),
+            Flow::Among { number, target } => jump_among(spot.at, number, target),
+            Flow::End => end_of(&self.program, spot),
+            Flow::Fail(error) => return self.fail_statement(error, spot),
+            Flow::AskNow => return Some(block_request(Ask::Now, spot.level)),
         };
-        self.place = Place::At(block, next, level, Mode::Fresh);
+        self.spot = at_statement(spot, next);
         self.since += 1;
         None
     }
 
-    /// An error finds no OB121: the CPU asks to stop.
-    fn fail(&mut self, error: u8) -> Request
-        requires { IsSound (config_of self.old) }
-        ensures halted { config_of self.new ≡ record (config_of self.old) { place = Place.AtStop StopCode.NoOb121; diag = with_newest self.old.diag.items self.old.at (Some (DiagCode.Error error)) } }
-        ensures asks { result ≡ stop_request StopCode.NoOb121 }
+    /// A statement failed: a diagnostic entry is made, and its error OB begins, or the CPU asks to stop. How many
+    /// statements were completed is left as it was.
+    fn fail(&mut self, error: u8, spot: BlockSpot) -> Option<Request>
+        requires sound { IsSound (config_of self.old) }
+        requires stored { IsStored self.old }
+        requires here { IsHigh (length (config_of self.old).frames) (At spot.block spot.at (level_in spot.level) Fresh) }
+        requires code { IsCode self.old.program spot.code spot.block }
+        requires within { spot.at + 1 < 2 ^ 64 }
+        ensures failed { IsTurned (fails self.old.program (At spot.block (spot.at + 1) (level_in spot.level) Fresh) (level_in spot.level) self.old.memory error) (config_of self.old) self.old.since self.old.at (config_of self.new) }
+        ensures asks { result ≡ halts_with (fails self.old.program (At spot.block (spot.at + 1) (level_in spot.level) Fresh) (level_in spot.level) self.old.memory error) }
         ensures sound { IsSound (config_of self.new) }
+        ensures stored { IsStored self.new }
+        ensures going { (config_of self.new).place ≢ Over }
+        ensures waits { self.new.waits ≡ self.old.waits }
     {
-        self.note(DiagCode::Error(error));
-        self.place = Place::AtStop(StopCode::NoOb121);
-        stop_request(StopCode::NoOb121)
+        match error_level(&self.program, spot.level, error) {
+            Ok(level) => {
+                let frame = Frame {
+                    spot: at_statement(spot, spot.at + 1),
+                    kept: self.memory.registers(),
+                };
+                self.memory.set_registers(error_registers(&frame.kept));
+                self.begin(ob(error_ob(error)), level, frame);
+                self.note(DiagCode::Error(error));
+                None
+            }
+            Err(code) => {
+                self.spot = Spot::AtStop(code);
+                self.note(DiagCode::Error(error));
+                Some(stop_request(code))
+            }
+        }
     }
 
-    /// The end of a block: the frame under it goes on.
+    /// A statement fails. It is completed where its error OB begins.
+    #[tactic(auto, using(crate::proofs::Sound::turned_moves, crate::proofs::Sound::turned_halts))]
+    fn fail_statement(&mut self, error: u8, spot: BlockSpot) -> Option<Request>
+        requires sound { IsSound (config_of self.old) }
+        requires stored { IsStored self.old }
+        requires here { IsHigh (length (config_of self.old).frames) (At spot.block spot.at (level_in spot.level) Fresh) }
+        requires code { IsCode self.old.program spot.code spot.block }
+        requires before { self.old.since < 256 }
+        requires within { spot.at + 1 < 2 ^ 64 }
+        ensures turned { Follows (fails self.old.program (At spot.block (spot.at + 1) (level_in spot.level) Fresh) (level_in spot.level) self.old.memory error) (config_of self.old) result (config_of self.new) }
+        ensures sound { IsSound (config_of self.new) }
+        ensures stored { IsStored self.new }
+    {
+        match self.fail(error, spot) {
+            Some(request) => Some(request),
+            None => {
+                self.since += 1;
+                None
+            }
+        }
+    }
+
+    /// A statement that asked is completed by its answer, and fails.
+    #[tactic(auto, using(crate::proofs::Sound::turned_since))]
+    fn fail_answered(&mut self, error: u8, spot: BlockSpot)
+        requires sound { IsSound (config_of self.old) }
+        requires stored { IsStored self.old }
+        requires here { IsHigh (length (config_of self.old).frames) (At spot.block spot.at (level_in spot.level) Fresh) }
+        requires code { IsCode self.old.program spot.code spot.block }
+        requires within { spot.at + 1 < 2 ^ 64 }
+        ensures turned { IsTurned (fails self.old.program (At spot.block (spot.at + 1) (level_in spot.level) Fresh) (level_in spot.level) self.old.memory error) (config_of self.old) 1 self.old.at (config_of self.new) }
+        ensures sound { IsSound (config_of self.new) }
+        ensures stored { IsStored self.new }
+        ensures going { (config_of self.new).place ≢ Over }
+        ensures waits { self.new.waits ≡ self.old.waits }
+    {
+        let _ = self.fail(error, spot);
+        self.since = 1;
+    }
+
+    /// A block begins over a frame, with the registers that there are.
+    #[tactic(auto, using(crate::proofs::Stored::frames_below))]
+    fn begin(&mut self, block: BlockRef, level: Level, frame: Frame)
+        requires stacked { AreStacked 0 (config_of self.old).frames }
+        requires under { IsHigh (length (config_of self.old).frames) (frame_of frame).place }
+        requires high { IsHigh (length (config_of self.old).frames + 1) (At block 0 (level_in level) Fresh) }
+        requires room { length (config_of self.old).frames < 2 }
+        requires frames { AreIndexed self.old.program self.old.frames.items }
+        requires indexed { IsIndexed self.old.program frame.spot }
+        ensures moved { config_of self.new ≡ record (config_of self.old) { place = At block 0 (level_in level) Fresh; frames = (config_of self.old).frames ++ frame_of frame ∷ [] } }
+        ensures sound { IsSound (config_of self.new) }
+        ensures stored { IsStored self.new }
+        ensures waits { self.new.waits ≡ self.old.waits }
+    {
+        let code = code_index(&self.program, block);
+        self.frames.push(frame);
+        self.spot = Spot::At(BlockSpot {
+            block,
+            code,
+            at: 0,
+            level,
+            mode: Mode::Fresh,
+        });
+    }
+
+    /// The end of a block: its status row, and then the frame under it goes on.
+    #[tactic(auto, using(crate::proofs::Stored::frames_above))]
     fn leave(&mut self)
         requires sound { IsSound (config_of self.old) }
-        requires some { 0 < length self.old.frames.items }
+        requires stored { IsStored self.old }
+        requires some { 0 < length (config_of self.old).frames }
         ensures left { Follows Leaves (config_of self.old) None (config_of self.new) }
         ensures sound { IsSound (config_of self.new) }
+        ensures stored { IsStored self.new }
     {
         let Some(frame) = self.frames.pop() else {
             unreachable!()
         };
-        self.place = frame.place;
+        self.spot = frame.spot;
         self.memory.set_registers(frame.kept);
     }
 }

@@ -1,25 +1,41 @@
-//! Where a CPU stands.
+//! Where a machine stands, as it is stored.
 
 use s7_base::{BlockRef, DiagCode, StopCode};
 use statement_effects::Registers;
+use std::marker::Model;
 
-/// The level that a block runs on.
-#[derive(Clone, Copy, Debug, PartialEq, Eq)]
+/// The level that a block runs on: its priority, how many blocks have begun on it and have not ended, the local bytes
+/// that these have together, and whether one of them is an error OB.
+#[derive(Clone, Copy, Debug)]
 pub struct Level {
     pub priority: u8,
+    pub depth: u8,
+    pub local_bytes: u16,
+    pub in_error: bool,
 }
 
 /// Whether a block comes to its statement anew, or makes again a request that was not ended.
-#[derive(Clone, Copy, Debug, PartialEq, Eq)]
+#[derive(Clone, Copy, Debug)]
 pub enum Mode {
     Fresh,
     Ticking,
     Timing,
 }
 
-/// Where a CPU stands.
-#[derive(Clone, Copy, Debug, PartialEq, Eq, Default)]
-pub enum Place {
+/// A place in a block: the block, its index among the code blocks, the statement, counted from 0, and how the block
+/// comes to it.
+#[derive(Clone, Copy, Debug)]
+pub struct BlockSpot {
+    pub block: BlockRef,
+    pub code: usize,
+    pub at: usize,
+    pub level: Level,
+    pub mode: Mode,
+}
+
+/// Where a machine stands.
+#[derive(Clone, Copy, Debug, Default)]
+pub enum Spot {
     /// At the start of a cycle, where it asks to put out the output image.
     #[default]
     AtOutputs,
@@ -31,20 +47,30 @@ pub enum Place {
     AtStop(StopCode),
     /// It has stopped.
     Over,
-    /// At a statement of a block, counted from 0.
-    At(BlockRef, usize, Level, Mode),
+    /// In a block.
+    At(BlockSpot),
 }
 
-/// Where a CPU goes on when a block ends, and the registers that come back.
+/// Where a machine goes on when a block ends, and the registers that come back.
 #[derive(Clone, Copy, Debug, Default)]
 pub struct Frame {
-    pub place: Place,
+    pub spot: Spot,
     pub kept: Registers,
 }
 
 /// A diagnostic entry, with its moment in milliseconds.
-#[derive(Clone, Copy, Debug, PartialEq, Eq, Default)]
+#[derive(Clone, Copy, Debug, Default)]
 pub struct Note {
     pub moment: u64,
     pub code: DiagCode,
+}
+
+impl Model for Note {
+    ghost use Rattle.mc_machine.specs.Places.{Note};
+
+    ghost Value = { Note };
+
+    ghost view = { λ n. record { moment = n.moment; code = n.code } };
+
+    ghost inverse = { λ n. record { moment = n.moment; code = n.code } };
 }

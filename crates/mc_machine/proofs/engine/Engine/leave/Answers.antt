@@ -1,8 +1,18 @@
 -- The frames that are left are as high as they were.
 use Rattle.std.proofs.Common.{refl}
-use Rattle.mc_machine.specs.EngineView.{config_of}
+use Rattle.mc_machine.specs.EngineView.{frame_of, config_of}
 use Rattle.mc_machine.proofs.Sound.{pop_sound}
+use Rattle.mc_machine.proofs.Stored.{frames_push, indexed_pop}
 use Rattle.mc_machine.proofs.engine.Engine.leave.Goals as goal
 
+pub returns-clause-left : goal.returns-clause-left
+returns-clause-left c = (refl, frame_of c.in-Some.frame, frames_push _ _ c.in-Some.frame c.in-Some.ensures.items, refl)
+
 pub returns-clause-sound : goal.returns-clause-sound
-returns-clause-sound c = pop_sound (config_of c.args.self.now) _ c.in-Some.frame c.in-Some.ensures.items refl c.requires.sound
+returns-clause-sound c =
+    pop_sound (config_of c.args.self.now) _ (frame_of c.in-Some.frame) (frames_push _ _ c.in-Some.frame c.in-Some.ensures.items) refl c.requires.sound
+
+pub returns-clause-stored : goal.returns-clause-stored
+returns-clause-stored c =
+    let popped = indexed_pop c.args.self.now.program _ _ c.in-Some.frame c.in-Some.ensures.items c.requires.stored.later in
+    record { here = popped.1; later = popped.0 }

@@ -11,5 +11,6 @@ returns-in-Some-clause-keeps c =
 pub turns-preserved : goal.turns-preserved
 turns-preserved c = record {
   sound = c.step.ensures.sound;
+  stored = c.step.ensures.stored;
   keeps = keeps_on (config_of c.args.self.now) (config_of c.turns.self) (config_of c.step.new.self) c.step.result c.turns.invariant.keeps c.step.ensures.turned;
 }

@@ -1,11 +1,12 @@
 -- Each turn keeps what the machine stands for.
 use Rattle.mc_machine.specs.Stands.{IsSound, Keeps, turns_left}
-use Rattle.mc_machine.specs.EngineView.{config_of}
+use Rattle.mc_machine.specs.EngineView.{config_of, IsStored}
 use Rattle.mc_machine.proofs.engine.Engine.run_on.Given as goal
 
 abbrev pub invariant-turns : goal.invariant-turns
 invariant-turns l = record {
   sound : IsSound (config_of l.self);
+  stored : IsStored l.self;
   keeps : Keeps (config_of l.initial.self) (config_of l.self);
 }
 

@@ -1,0 +1,21 @@
+-- A block begins one frame higher.
+use Rattle.std.proofs.Common.{ap}
+use Rattle.mc_machine.specs.Places.{At, Fresh}
+use Rattle.mc_machine.specs.EngineView.{level_in, frame_of, config_of}
+use Rattle.mc_machine.proofs.Sound.{push_sound}
+use Rattle.mc_machine.proofs.Stored.{frames_push, indexed_push}
+use Rattle.mc_machine.proofs.engine.Engine.begin.Goals as goal
+
+pub returns-clause-moved : goal.returns-clause-moved
+returns-clause-moved c =
+    ap (λ fs. record (config_of c.args.self.now) { place = At c.args.block 0 (level_in c.args.level) Fresh; frames = fs }) (frames_push _ _ c.args.frame c.push.ensures.items)
+
+pub returns-clause-sound : goal.returns-clause-sound
+returns-clause-sound c =
+    push_sound (config_of c.args.self.now) _ (frame_of c.args.frame) (frames_push _ _ c.args.frame c.push.ensures.items) c.requires.stacked c.requires.under c.requires.high
+
+pub returns-clause-stored : goal.returns-clause-stored
+returns-clause-stored c = record {
+  here = c.code_index-code.ensures;
+  later = indexed_push c.args.self.now.program _ _ c.args.frame c.push.ensures.items c.requires.frames c.requires.indexed;
+}

@@ -1,0 +1,40 @@
+-- Where a CPU stands.
+use Rattle.std.specs.Prelude.{ℕ, Bool}
+use Rattle.s7_base.specs.declared.blocks.BlockRef.{BlockRef}
+use Rattle.s7_events.specs.declared.entry.StopCode.{StopCode}
+use Rattle.s7_events.specs.declared.diagnostics.DiagCode.{DiagCode}
+use Rattle.statement_effects.specs.declared.areas.Registers.{Registers}
+
+-- the level that a block runs on: its priority, how many blocks have begun on it and have not ended, the local bytes that
+-- these have together, and whether one of them is an error OB
+pub record Level : Type 0 where
+  pub priority : ℕ
+  pub depth : ℕ
+  pub local_bytes : ℕ
+  pub in_error : Bool
+
+-- whether a block comes to its statement anew, or makes again a request that was not ended
+pub data Mode : Type 0 where
+  Fresh : Mode
+  Ticking : Mode
+  Timing : Mode
+
+-- at the start of a cycle, where the CPU asks to put out the output image; where it asks for the input image; at the end
+-- of a cycle; where it asks to stop; where it has stopped; at a statement of a block, counted from 0
+pub data Place : Type 0 where
+  AtOutputs : Place
+  AtInputs : Place
+  AtCycle : Place
+  AtStop : (code : StopCode) → Place
+  Over : Place
+  At : (block : BlockRef) (at : ℕ) (level : Level) (mode : Mode) → Place
+
+-- where a CPU goes on when a block ends, and the registers that come back
+pub record Frame : Type 0 where
+  pub place : Place
+  pub kept : Registers
+
+-- a diagnostic entry, with its moment in milliseconds
+pub record Note : Type 0 where
+  pub moment : ℕ
+  pub code : DiagCode
