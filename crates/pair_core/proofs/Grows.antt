@@ -12,7 +12,8 @@ use Rattle.pair_core.specs.declared.turns.Act.TheVariants.{Over, Dead, Take, Sho
 use Rattle.pair_core.specs.declared.own.Own.{Own}
 use Rattle.pair_core.specs.declared.own.Parts.{Parts}
 use Rattle.pair_core.specs.Sides.{other_side}
-use Rattle.pair_core.specs.World.{Setup, World, part, part_in, with_part, next_entry, appended, acted, step, choose}
+use Rattle.pair_core.specs.Setup.{Setup}
+use Rattle.pair_core.specs.World.{World, part, part_in, with_part, next_entry, appended, acted, step, choose}
 use Rattle.pair_core.specs.Places.{StandsAfter, IsAt}
 use Rattle.pair_core.specs.Good.{Good}
 

@@ -8,25 +8,27 @@ use Rattle.s7_base.specs.declared.entry.Side.TheVariants.{A, B}
 use Rattle.s7_base.specs.declared.entry.StopCode.{StopCode}
 use Rattle.s7_base.specs.declared.entry.Entry.{Entry}
 use Rattle.plant_script.specs.Plan.{IsPlan}
-use Rattle.pair_core.specs.Monitor.{watch_of}
 use Rattle.pair_core.specs.declared.endings.Ended.{Ended}
 use Rattle.pair_core.specs.declared.turns.Act.{Act}
 use Rattle.pair_core.specs.declared.turns.Act.TheVariants.{Over, Dead, Take, Show, Mark, Unmarked, Behind, Append}
 use Rattle.pair_core.specs.declared.own.Own.{Own}
 use Rattle.pair_core.specs.declared.own.Parts.{Parts}
-use Rattle.pair_core.specs.Sides.{same_side, runs, first_standing, after}
+use Rattle.pair_core.specs.Setup.{Setup}
+use Rattle.pair_core.specs.Ledger.{Ledger, first_ledger, ledger}
+use Rattle.pair_core.specs.Sides.{same_side, runs, after_answer}
 use Rattle.pair_core.specs.Cuts.{is_cut, is_late}
 use Rattle.pair_core.specs.Stops.{stop_of}
 use Rattle.pair_core.specs.Showings.{tagged, shown_of}
 use Rattle.pair_core.specs.Losses.{lost_at, loses_by}
-use Rattle.pair_core.specs.World.{Setup, Log, World, part, part_in, with_part, taken_one, standing_in, is_open, is_pending, has_shown, is_down, end_by, ended, is_behind, unless_over, must_wait, waits_for_other, when_taken, choose, next_entry, with_entry, with_shown, with_marked, appended, acted}
+use Rattle.pair_core.specs.World.{Log, World, part, part_in, with_part, taken_one, standing_in, is_open, is_pending, has_shown, is_down, end_by, ended, is_behind, unless_over, must_wait, waits_for_other, when_taken, choose, next_entry, with_entry, with_shown, with_marked, appended, acted}
 use Rattle.pair_core.specs.Kept.{CanAct}
 use Rattle.pair_core.specs.Good.{Pending, GoodLog, IsRunningSide, IsSameSide, LastIsTaken, Good, shown_by}
-use Rattle.pair_core.proofs.Snoc.{standing_snoc}
+use Rattle.pair_core.proofs.Snoc.{moment_is, standing_snoc}
 use Rattle.pair_core.proofs.Bounds.{shown_few}
-use Rattle.pair_core.proofs.Losses.{pick, lost_snoc, lost_out, lost_was_cut, lawful_stays, in_after, ran_first}
+use Rattle.pair_core.proofs.Losses.{pick, lost_snoc, lost_out, in_after, ran_first}
+use Rattle.pair_core.proofs.Answers.{kind_stays, lost_was_cut}
 use Rattle.pair_core.proofs.Logs.{same_is, other_is, has_is, down_is, down_by, good_shown, good_marked, shown_up, marked_up, pending_shows, last_place}
-use Rattle.pair_core.proofs.Added.{IsNext, is_next, fresh_side, good_added}
+use Rattle.pair_core.proofs.Added.{IsNext, is_next, next_kind, fresh_side, good_added}
 
 -- what is kept of the sides --------------------------------------------------
 
@@ -118,11 +120,11 @@ keeps_dead p w s good out =
 
 -- a side that runs was not lost
 runs_not_lost : (p : Setup) (l : Log) (s : Side) → GoodLog p l → runs (standing_in p l) s ≡ true → (j : ℕ) → lost_at l.entries s ≡ Some j → ⊥
-runs_not_lost p l s good run j h = (let out = lost_out p.plan s (first_standing p.solo) None None 0 l.entries good.same.lawful j h in cc)
+runs_not_lost p l s good run j h = (let out = lost_out p s (first_ledger p) 0 l.entries good.same.lawful j h in cc)
 
 -- a side that runs began by a load
 runs_loaded : (p : Setup) (w : World) (s : Side) → Fair p w → runs (standing_in p w.log) s ≡ true → (part w s).loaded ≡ true
-runs_loaded p w s good run = (good.sides s).loaded ∙ ran_first p.plan s (first_standing p.solo) None None 0 w.log.entries good.log.same.lawful run
+runs_loaded p w s good run = (good.sides s).loaded ∙ ran_first p s w.log.entries good.log.same.lawful run
 
 keeps_take : (p : Setup) (w : World) (s : Side) → Fair p w → runs (standing_in p w.log) s ≡ true → is_down p w.log s ≡ false → (part w s).place < length w.log.entries → Keeps p w s Take
 keeps_take p w s good run up less =
@@ -154,8 +156,8 @@ few_shown : (p : Setup) (l : Log) (s : Side) → GoodLog p l → Pending p l →
 few_shown p l s good h has =
     let sides = shown_by (standing_in p l).master h.by_master h.by_other in
     let one : length sides ≤ 1 = few_by (standing_in p l).master s h.by_master h.by_other (sym (has_is p l h s) ∙ has) in
-    let base : length (shown_of p.plan p.solo h.front) ≤ 2 * length h.front = shown_few p.plan (first_standing p.solo) 0 h.front in
-    let all : length l.shown ≡ length (shown_of p.plan p.solo h.front) + length sides = ap length h.shown ∙ (length-append (shown_of p.plan p.solo h.front) (tagged (length h.front) sides) ∙ ap (λ n. length (shown_of p.plan p.solo h.front) + n) (length-map sides (λ x. (length h.front, x)))) in
+    let base : length (shown_of p h.front) ≤ 2 * length h.front = shown_few p (first_ledger p) h.front in
+    let all : length l.shown ≡ length (shown_of p h.front) + length sides = ap length h.shown ∙ (length-append (shown_of p h.front) (tagged (length h.front) sides) ∙ ap (λ n. length (shown_of p h.front) + n) (length-map sides (λ x. (length h.front, x)))) in
     omega (arith, one, base, all, last_place p l h, good.same.within)
 
 sides_shown : (p : Setup) (l : Log) (s : Side) (parts : Parts) → 0 < length l.entries → AllSides p l parts → AllSides p (with_shown l s) parts
@@ -260,9 +262,13 @@ module _ (p : Setup) (w : World) (s : Side) (e : Entry) (good : Fair p w) (next 
 
   -- who runs after the entry ran before it, and was not cut at it
   before : (t : Side) → runs (standing_in p (with_entry w.log e)) t ≡ true → (is_cut p.plan t (length w.log.entries) ≡ false) × (runs (standing_in p w.log) t ≡ true)
-  before t r =
-      fresh_side p.plan (standing_in p w.log) (watch_of w.log.entries) (length w.log.entries) e.request.ask e.answer s t next.answer good.log.same.master run uncut
-      (rw (standing_snoc (first_standing p.solo) w.log.entries e) at r)
+  before t r = fresh_side p w.log e s t next good.log.same.master run uncut r
+
+  -- who is lost by it runs and is cut
+  loses : (t : Side) → loses_by e.answer t ≡ true → (is_cut p.plan t (length w.log.entries) ≡ true) × (runs (standing_in p w.log) t ≡ true)
+  loses t now =
+      let h = lost_was_cut p (ledger p w.log.entries) e.answer t (next_kind p w.log e next) now in
+      (subst (λ k. is_cut p.plan t k ≡ true) (moment_is p w.log.entries) h.0, h.1)
 
   -- the visitor
   own_running : IsRunningSide p (with_entry w.log e) s (taken_one (part w s))
@@ -288,7 +294,7 @@ module _ (p : Setup) (w : World) (s : Side) (e : Entry) (good : Fair p w) (next 
       → (lost_at w.log.entries t ≡ Some j) ⊎ ((length w.log.entries ≡ j) × (is_cut p.plan t (length w.log.entries) ≡ true) × (runs (standing_in p w.log) t ≡ true))
   lost_now t j (Some i) was b now h = inl (was ∙ h)
   lost_now t j None was true now h =
-      let cut = lost_was_cut p.plan (standing_in p w.log) (watch_of w.log.entries) (length w.log.entries) e.request.ask e.answer t next.answer now in
+      let cut = loses t now in
       let at_j : 0 + length w.log.entries ≡ j = cc in
       inr (omega arith, cut.0, cut.1)
   lost_now t j None was false now h = absurd cc
@@ -327,15 +333,14 @@ module _ (p : Setup) (w : World) (s : Side) (e : Entry) (good : Fair p w) (next 
   sides_added = sides_put p (with_entry w.log e) w.parts s (taken_one (part w s)) (λ t. each_side t (same_side t s) refl)
 
   -- the visitor is not lost by the entry
-  stays : (b : Bool) → loses_by e.answer s ≡ b → runs (after (standing_in p w.log) e) s ≡ true
-  stays true is = absurd (let cut = lost_was_cut p.plan (standing_in p w.log) (watch_of w.log.entries) (length w.log.entries) e.request.ask e.answer s next.answer is in let sound = uncut in cc)
-  stays false is =
-      in_after (standing_in p w.log) e.answer s is (lawful_stays p.plan (standing_in p w.log) (watch_of w.log.entries) (length w.log.entries) e.request.ask e.answer next.answer) ∙ run
+  stays : (b : Bool) → loses_by e.answer s ≡ b → runs (after_answer (standing_in p w.log) e.answer) s ≡ true
+  stays true is = absurd (let cut = loses s is in let sound = uncut in cc)
+  stays false is = in_after (standing_in p w.log) e.answer s is (kind_stays p (ledger p w.log.entries) e.answer (next_kind p w.log e next)) ∙ run
 
   -- and it has taken it
   pub taken_added : LastIsTaken p (record { log = with_entry w.log e; parts = with_part w.parts s (taken_one (part w s)) })
   taken_added =
-      let still : runs (standing_in p (with_entry w.log e)) s ≡ true = rw (standing_snoc (first_standing p.solo) w.log.entries e) (stays (loses_by e.answer s) refl) in
+      let still : runs (standing_in p (with_entry w.log e)) s ≡ true = rw (standing_snoc p w.log.entries e) (stays (loses_by e.answer s) refl) in
       someone_took p (record { log = with_entry w.log e; parts = with_part w.parts s (taken_one (part w s)) }) s still
       (omega (arith, here, longer, ap (λ (own : Own). own.place) (own_put w.parts s (taken_one (part w s)))))
 

@@ -11,7 +11,8 @@ use Rattle.pair_core.specs.declared.own.Own.{Own}
 use Rattle.pair_core.specs.declared.own.Parts.{Parts}
 use Rattle.pair_core.specs.Sides.{runs}
 use Rattle.pair_core.specs.Turns.{is_over}
-use Rattle.pair_core.specs.World.{Setup, World, part, part_in, with_part, standing_in, is_down, is_pending, has_shown, must_wait, waits_for_other, ended, unless_over, choose, next_entry, appended, acted, step}
+use Rattle.pair_core.specs.Setup.{Setup}
+use Rattle.pair_core.specs.World.{World, part, part_in, with_part, standing_in, is_down, is_pending, has_shown, must_wait, waits_for_other, ended, unless_over, choose, next_entry, appended, acted, step}
 use Rattle.pair_core.specs.Good.{OverIsEnded}
 
 abbrev pub NotOver : Act → Type 0

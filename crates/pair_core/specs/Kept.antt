@@ -8,8 +8,9 @@ use Rattle.pair_core.specs.declared.turns.Act.{Act}
 use Rattle.pair_core.specs.declared.turns.Act.TheVariants.{Over, Dead, Take, Show, Mark, Unmarked, Behind, Append}
 use Rattle.pair_core.specs.declared.state.State.{State}
 use Rattle.pair_core.specs.CutsKept.{IsCutsAt}
-use Rattle.pair_core.specs.Monitor.{watch_of}
-use Rattle.pair_core.specs.World.{Setup, Log, World, Game, part, standing_in, shown_past, is_open}
+use Rattle.pair_core.specs.Setup.{Setup}
+use Rattle.pair_core.specs.Ledger.{ledger}
+use Rattle.pair_core.specs.World.{Log, World, Game, part, standing_in, shown_past, is_open}
 
 abbrev pub setup_of : State → Setup
 setup_of s = record { program = s.program; plan = s.script; solo = s.solo }
@@ -30,7 +31,8 @@ IsImageBefore plan k image = (earlier : ℕ) × (earlier ≤ k) × IsImageOf pla
 -- the fields that repeat what the record, the showings and the script say, and the room
 pub record IsKept (s : State) : Type 0 where
   pub standing : s.standing ≡ standing_in (setup_of s) (log_of s)
-  pub watch : s.watch ≡ watch_of s.log.entries
+  pub watch : s.watch ≡ (ledger (setup_of s) s.log.entries).watch
+  pub moment : (ledger (setup_of s) s.log.entries).moment ≡ length s.log.entries
   pub shown_a : s.shown_by_a ≡ shown_past s.shown.list A
   pub shown_b : s.shown_by_b ≡ shown_past s.shown.list B
   pub image : IsImageBefore s.script (length s.log.entries) s.image

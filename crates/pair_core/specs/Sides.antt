@@ -1,10 +1,9 @@
 -- The two sides, and who runs.
-use Rattle.std.specs.Prelude.{Bool, true, false, not, List, [], ◌∷◌}
+use Rattle.std.specs.Prelude.{Bool, true, false, not}
 use Rattle.s7_base.specs.declared.entry.Side.{Side}
 use Rattle.s7_base.specs.declared.entry.Side.TheVariants.{A, B}
 use Rattle.s7_base.specs.declared.entry.Answer.{Answer}
 use Rattle.s7_base.specs.declared.entry.Answer.TheVariants.{Lost, Back}
-use Rattle.s7_base.specs.declared.entry.Entry.{Entry}
 use Rattle.pair_core.specs.declared.standing.Standing.{Standing}
 
 abbrev pub same_side : Side → Side → Bool
@@ -32,14 +31,3 @@ after_answer st (Lost B why) = record { a = st.a; b = false; master = A }
 after_answer st (Back A) = record { a = true; b = st.b; master = st.master }
 after_answer st (Back B) = record { a = st.a; b = true; master = st.master }
 after_answer st answer = st
-
-abbrev pub after : Standing → Entry → Standing
-after st e = after_answer st e.answer
-
-abbrev pub standing_from : Standing → List Entry → Standing
-standing_from st [] = st
-standing_from st (e ∷ es) = standing_from (after st e) es
-
--- who runs after these entries
-abbrev pub standing : Bool → List Entry → Standing
-standing solo es = standing_from (first_standing solo) es

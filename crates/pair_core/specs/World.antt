@@ -6,9 +6,7 @@ use Rattle.s7_base.specs.declared.entry.Entry.{Entry}
 use Rattle.s7_base.specs.declared.entry.Request.{Request}
 use Rattle.s7_base.specs.declared.entry.Answer.{Answer}
 use Rattle.s7_base.specs.declared.entry.StopCode.{StopCode}
-use Rattle.s7_base.specs.Blocks.{Program}
 use Rattle.mc_machine.specs.Meaning.{std, next_of}
-use Rattle.plant_script.specs.Plan.{Plan}
 use Rattle.pair_core.specs.declared.endings.Ended.{Ended}
 use Rattle.pair_core.specs.declared.endings.Ended.TheVariants.{End, Stop, NoneLeft}
 use Rattle.pair_core.specs.declared.turns.Reason.TheVariants as reasons
@@ -18,20 +16,16 @@ use Rattle.pair_core.specs.declared.turns.Act.{Act}
 use Rattle.pair_core.specs.declared.turns.Act.TheVariants.{Over, Dead, Take, Show, Mark, Unmarked, Behind, Append}
 use Rattle.pair_core.specs.declared.own.Own.{Own}
 use Rattle.pair_core.specs.declared.own.Parts.{Parts}
-use Rattle.pair_core.specs.Sides.{same_side, other_side, runs, standing}
+use Rattle.pair_core.specs.Setup.{Setup}
+use Rattle.pair_core.specs.Ledger.{ledger, standing}
+use Rattle.pair_core.specs.Lawful.{answer_at}
+use Rattle.pair_core.specs.Sides.{same_side, other_side, runs}
 use Rattle.pair_core.specs.declared.standing.Standing.{Standing}
 use Rattle.pair_core.specs.Cuts.{is_cut, is_late}
 use Rattle.pair_core.specs.Stops.{stop_of}
 use Rattle.pair_core.specs.Endings.{ends_by_output, may_grow}
 use Rattle.pair_core.specs.Played.{answers_of}
-use Rattle.pair_core.specs.Turns.{answer_at, is_over}
-use Rattle.pair_core.specs.Monitor.{watch_of}
-
--- what a pair is made for: the program of its CPUs, the plant script, and whether side A runs alone
-pub record Setup : Type 0 where
-  pub program : Program
-  pub plan : Plan
-  pub solo : Bool
+use Rattle.pair_core.specs.Turns.{is_over}
 
 -- what both sides share: the record, the showings in their order, and one past the last output that is marked
 pub record Log : Type 0 where
@@ -58,7 +52,7 @@ part w s = part_in w.parts s
 
 -- who runs after the record
 abbrev pub standing_in : Setup → Log → Standing
-standing_in p l = standing p.solo l.entries
+standing_in p l = standing p l.entries
 
 -- another entry may follow
 unfoldable pub is_open : Setup → Log → Bool
@@ -143,7 +137,7 @@ entry_with request (Some answer) = Some (record { request = request; answer = an
 
 abbrev pub entry_for : Setup → Log → Option Request → Option Entry
 entry_for p l None = None
-entry_for p l (Some request) = entry_with request (answer_at p.plan (standing_in p l) (watch_of l.entries) (length l.entries) request.ask)
+entry_for p l (Some request) = entry_with request (answer_at p (ledger p l.entries) request.ask)
 
 -- the entry that comes next: what the standard CPU asks after the record's answers, with the lawful answer
 abbrev pub next_entry : Setup → Log → Option Entry

@@ -2,9 +2,9 @@
 ghost use Rattle.std.specs.Prelude.{◌≡◌, ◌+◌, ◌*◌, ◌<◌, ◌++◌, ◌∷◌, [], true, length, slice_get, Some, is_some};
 ghost use Rattle.mc_machine.specs.Stands.{IsAsked};
 ghost use Rattle.pair_core.specs.declared.turns.Act as Act;
-ghost use Rattle.pair_core.specs.Turns.{answer_at};
-ghost use Rattle.pair_core.specs.Monitor.{watch_of};
-ghost use Rattle.pair_core.specs.World.{part_in, with_part, acted, standing_in, next_entry, with_entry};
+ghost use Rattle.pair_core.specs.Ledger.{ledger};
+ghost use Rattle.pair_core.specs.Lawful.{answer_at, going_answer};
+ghost use Rattle.pair_core.specs.World.{part_in, with_part, acted, next_entry, with_entry};
 ghost use Rattle.pair_core.specs.Kept.{setup_of, log_of, world_of, IsKept, CanAct};
 ghost use Rattle.pair_core.specs.Places.{IsAt};
 ghost use Rattle.pair_core.specs.Good.{GoodLog};
@@ -19,12 +19,29 @@ use s7_base::{Answer, Ask, Entry, Loss, Side, StopCode};
 use subsystem::Subsystem;
 
 impl State {
+    /// The answer where no side is lost: a cycle that takes too long stops the CPU; else the plain answer.
+    #[tactic(auto, unfolding(crate::specs::Lawful::going_answer))]
+    fn going_answer(&mut self, ask: &Ask) -> Answer
+        requires kept { IsKept self.old }
+        requires asked { IsAsked ask.now }
+        ensures answer { going_answer (setup_of self.old) (ledger (setup_of self.old) self.old.log.entries) ask.now ≡ Some result }
+        ensures world { world_of self.new ≡ world_of self.old }
+        ensures setup { setup_of self.new ≡ setup_of self.old }
+        ensures kept { IsKept self.new }
+    {
+        let moment = self.len();
+        if is_overdue(&self.program, self.watch, moment) {
+            return Answer::CpuStop(StopCode::Cycle);
+        }
+        plain_answer(&self.script, &mut self.image, ask, moment)
+    }
+
     /// The lawful answer to what is asked next: of two sides that run, the one that is cut is lost; and a cycle that
     /// takes too long stops the CPU.
     fn answer(&mut self, ask: &Ask) -> Answer
         requires kept { IsKept self.old }
         requires asked { IsAsked ask.now }
-        ensures answer { answer_at self.old.script (standing_in (setup_of self.old) (log_of self.old)) (watch_of self.old.log.entries) (length self.old.log.entries) ask.now ≡ Some result }
+        ensures answer { answer_at (setup_of self.old) (ledger (setup_of self.old) self.old.log.entries) ask.now ≡ Some result }
         ensures world { world_of self.new ≡ world_of self.old }
         ensures setup { setup_of self.new ≡ setup_of self.old }
         ensures kept { IsKept self.new }
@@ -43,11 +60,7 @@ impl State {
                 };
             }
         }
-        let moment = self.len();
-        if is_overdue(self.watch, moment) {
-            return Answer::CpuStop(StopCode::Cycle);
-        }
-        plain_answer(&self.script, &mut self.image, ask, moment)
+        self.going_answer(ask)
     }
 
     /// Adds an entry to the record.

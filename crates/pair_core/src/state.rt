@@ -6,7 +6,7 @@ ghost use Rattle.pair_core.specs.Cuts.{is_cut, is_late};
 ghost use Rattle.pair_core.specs.Stops.{stop_by, stop_of};
 ghost use Rattle.pair_core.specs.Showings.{is_output_of};
 ghost use Rattle.pair_core.specs.Endings.{ends_by_output};
-ghost use Rattle.pair_core.specs.Turns.{plain_answer, answer_at};
+ghost use Rattle.pair_core.specs.Lawful.{plain_answer};
 ghost use Rattle.pair_core.specs.World.{part_in, is_open, is_pending, has_shown, is_down, is_left, is_behind, end_by, ended, must_wait, waits_for_other, choose, acted, standing_in, with_entry};
 ghost use Rattle.pair_core.specs.Kept.{setup_of, log_of, world_of, IsKept, IsImageBefore, CanAct};
 ghost use Rattle.pair_core.specs.Places.{IsAt};
@@ -64,7 +64,7 @@ fn is_output(ask: &Ask, answer: &Answer) -> bool
     )
 }
 
-/// The answer to a request that nothing bars, at moment k.
+/// The answer to a request that nothing prevents, at moment k.
 pub fn plain_answer(script: &Script, image: &mut InputImage, ask: &Ask, k: u32) -> Answer
     requires asked { IsAsked ask.now }
     requires before { IsImageBefore script.now k image.old }

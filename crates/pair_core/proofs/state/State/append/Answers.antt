@@ -3,10 +3,11 @@ use Rattle.std.proofs.lemmas.List.{length-map}
 use Rattle.s7_base.specs.declared.entry.Entry.{Entry}
 use Rattle.mc_machine.specs.Meaning.{is_dated}
 use Rattle.pair_core.specs.Played.{answers_of}
-use Rattle.pair_core.specs.World.{part_in, standing_in}
+use Rattle.pair_core.specs.Ledger.{ledger}
+use Rattle.pair_core.specs.World.{part_in}
 use Rattle.pair_core.specs.Kept.{setup_of, log_of}
-use Rattle.pair_core.specs.Monitor.{watch_of}
-use Rattle.pair_core.proofs.Answers.{lawful_is, lawful_takes, lawful_dated}
+use Rattle.pair_core.proofs.Answers.{lawful_takes, lawful_dated}
+use Rattle.pair_core.proofs.Snoc.{moment_is}
 use Rattle.pair_core.proofs.Opens.{going_at, open_room}
 use Rattle.pair_core.proofs.Taking.{can_ask_at, can_take, stands_all, take_added, took, put_added}
 use Rattle.pair_core.proofs.state.State.append.Goals as goal
@@ -21,12 +22,8 @@ ask-request-requires c =
 pub take-requires-clause-takes : goal.take-requires-clause-takes
 take-requires-clause-takes c =
     let self = c.args.self.now in
-    let st = standing_in (setup_of self) (log_of self) in
-    let k = length self.log.entries in
-    let watch = watch_of self.log.entries in
     can_take c.ask-request.new.self.machine c.ask-request.result c.answer-answer.result c.ask-request.ensures.waits
-    (lawful_takes self.script st watch k c.ask-request.result c.answer-answer.result
-    (lawful_is self.script st watch k c.ask-request.result.ask c.answer-answer.result c.answer-answer.ensures.answer))
+    (lawful_takes (setup_of self) (ledger (setup_of self) self.log.entries) c.ask-request.result c.answer-answer.result c.answer-answer.ensures.answer)
 
 pub add-requires-clause-room : goal.add-requires-clause-room
 add-requires-clause-room c =
@@ -47,9 +44,8 @@ returns-clause-at c =
     let stands = c.ask-request.ensures.stands self.program (answers_of es) (stands_all self.program own es c.args.sub.now c.requires.at alive here) in
     let own_is : c.get-own.result ≡ own = c.get-own.ensures ∙ ap (λ w. part_in w.parts c.args.side) world in
     let from : c.from.result ≡ length es = c.from.ensures ∙ c.len-moment.ensures in
-    let st = standing_in (setup_of self) (log_of self) in
-    let watch = watch_of es in
-    let dated = lawful_dated self.script st watch (length es) e.request.ask e.answer (lawful_is self.script st watch (length es) e.request.ask e.answer c.answer-answer.ensures.answer) in
+    let g = ledger (setup_of self) es in
+    let dated = lawful_dated (setup_of self) g e.request.ask e.answer c.answer-answer.ensures.answer in
     put_added self.program c.add.new.self.program self.parts c.add.new.self.parts c.put.new.self c.args.side c.get-own.result c.len-moment.result es c.add.new.self.log.entries e c.take.new.self
     (ap (λ p. p.program) c.add.ensures.setup ∙ ap (λ p. p.program) c.answer-answer.ensures.setup)
     (ap (λ l. l.entries) c.add.ensures.log ∙ ap (λ w. w.log.entries ++ e ∷ []) world)
@@ -60,4 +56,4 @@ returns-clause-at c =
     (took self.program own es (es ++ e ∷ []) e c.ask-request.new.self c.take.new.self c.ask-request.result alive c.requires.can.1
     (c.ask-request.ensures.lives ∙ c.requires.at.lives) c.ask-request.ensures.waits refl
     (take_added es own.place e here) c.take.ensures.lives c.take.ensures.going
-    (c.take.ensures.stands self.program (answers_of es) (from ∙ count) (subst (λ n. is_dated n e.answer ≡ true) (sym from) dated) stands))
+    (c.take.ensures.stands self.program (answers_of es) (from ∙ count) (subst (λ n. is_dated n e.answer ≡ true) (moment_is (setup_of self) es ∙ sym from) dated) stands))
