@@ -69,7 +69,7 @@ or_true false = refl
 
 stands_by : (p : Setup) (g : Ledger) (s : Side) → runs g.standing s ≡ true → is_cut p.plan s g.moment ≡ false → someone_stands p g ≡ true
 stands_by p g A run uncut = rw (run, uncut)
-stands_by p g B run uncut = rw (run, uncut) (or_true (g.standing.a && not (is_cut p.plan A g.moment)))
+stands_by p g B run uncut = rw (run, uncut) (or_true (g.standing.running.a && not (is_cut p.plan A g.moment)))
 
 none_may : (cut late avail : Bool) → may_have cut late avail false false ≡ true
 none_may true true avail = refl

@@ -76,8 +76,8 @@ comes_back answer = false
 -- the answer takes a side out, of two that run, that is cut
 pub record IsLoss (p : Setup) (g : Ledger) (t : Side) (answer : Answer) : Type 0 where
   pub is : answer ≡ answers.Lost t Failed
-  pub a : g.standing.a ≡ true
-  pub b : g.standing.b ≡ true
+  pub a : g.standing.running.a ≡ true
+  pub b : g.standing.running.b ≡ true
   pub cut : is_cut p.plan t g.moment ≡ true
 
 -- by the answer no side is lost and none comes back
@@ -114,13 +114,13 @@ and_right false y h = absurd cc
 
 loss_of : (p : Setup) (g : Ledger) (t : Side) (answer : Answer) → falls p g t ≡ true → Some (answers.Lost t Failed) ≡ Some answer → IsLoss p g t answer
 loss_of p g t answer h is =
-    let both = and_left (g.standing.a && g.standing.b) (is_cut p.plan t g.moment) h in
+    let both = and_left (g.standing.running.a && g.standing.running.b) (is_cut p.plan t g.moment) h in
     let same : answers.Lost t Failed ≡ answer = cc in
     record {
       is = sym same;
-      a = and_left g.standing.a g.standing.b both;
-      b = and_right g.standing.a g.standing.b both;
-      cut = and_right (g.standing.a && g.standing.b) (is_cut p.plan t g.moment) h;
+      a = and_left g.standing.running.a g.standing.running.b both;
+      b = and_right g.standing.running.a g.standing.running.b both;
+      cut = and_right (g.standing.running.a && g.standing.running.b) (is_cut p.plan t g.moment) h;
     }
 
 kind_by : (p : Setup) (g : Ledger) (ask : Ask) (answer : Answer) (fa fb : Bool) → falls p g A ≡ fa → falls p g B ≡ fb
@@ -147,7 +147,7 @@ lost_same A B h = absurd cc
 lost_same B A h = absurd cc
 lost_same B B h = refl
 
-both_run : (st : Standing) (t : Side) → st.a ≡ true → st.b ≡ true → runs st t ≡ true
+both_run : (st : Standing) (t : Side) → st.running.a ≡ true → st.running.b ≡ true → runs st t ≡ true
 both_run st A a b = a
 both_run st B a b = b
 
@@ -176,7 +176,7 @@ lost_runs st A B r = (refl, r)
 lost_runs st B A r = (refl, r)
 lost_runs st B B r = absurd cc
 
-lost_master : (st : Standing) (t : Side) → st.a ≡ true → st.b ≡ true → runs (after_answer st (answers.Lost t Failed)) (after_answer st (answers.Lost t Failed)).master ≡ true
+lost_master : (st : Standing) (t : Side) → st.running.a ≡ true → st.running.b ≡ true → runs (after_answer st (answers.Lost t Failed)) (after_answer st (answers.Lost t Failed)).master ≡ true
 lost_master st A a b = b
 lost_master st B a b = a
 
@@ -187,7 +187,7 @@ apart A B cut here there = refl
 apart B A cut here there = refl
 apart B B cut here there = absurd cc
 
-fresh_loss : (p : Setup) (g : Ledger) (s t : Side) → is_cut p.plan s g.moment ≡ false → g.standing.a ≡ true → g.standing.b ≡ true → is_cut p.plan t g.moment ≡ true
+fresh_loss : (p : Setup) (g : Ledger) (s t : Side) → is_cut p.plan s g.moment ≡ false → g.standing.running.a ≡ true → g.standing.running.b ≡ true → is_cut p.plan t g.moment ≡ true
     → Fresh p g (answers.Lost t Failed)
 fresh_loss p g s t uncut a b cut = record {
   uncut = λ v r. (
@@ -207,8 +207,8 @@ third true false z hx hy h = absurd cc
 calm_uncut : (p : Setup) (g : Ledger) (s t : Side) → runs g.standing s ≡ true → is_cut p.plan s g.moment ≡ false → ((v : Side) → falls p g v ≡ false) → runs g.standing t ≡ true
     → is_cut p.plan t g.moment ≡ false
 calm_uncut p g A A run uncut none r = uncut
-calm_uncut p g A B run uncut none r = third g.standing.a g.standing.b (is_cut p.plan B g.moment) run r (none B)
-calm_uncut p g B A run uncut none r = third g.standing.a g.standing.b (is_cut p.plan A g.moment) r run (none A)
+calm_uncut p g A B run uncut none r = third g.standing.running.a g.standing.running.b (is_cut p.plan B g.moment) run r (none B)
+calm_uncut p g B A run uncut none r = third g.standing.running.a g.standing.running.b (is_cut p.plan A g.moment) r run (none A)
 calm_uncut p g B B run uncut none r = uncut
 
 -- what holds of the standing after the answer, where a side that is not cut adds it

@@ -3,15 +3,17 @@ use Rattle.std.proofs.Common.{◌≡◌, ℕ, suc, ◌+◌, List, [], ◌∷◌,
 use Rattle.std.specs.Prelude.{if◌then◌else◌}
 use Rattle.std.proofs.lemmas.List.{append-nil, map-append}
 use Rattle.s7_base.specs.declared.entry.Side.{Side}
+use Rattle.s7_base.specs.declared.entry.Side.TheVariants.{A, B}
 use Rattle.s7_base.specs.declared.entry.Entry.{Entry}
+use Rattle.pair_core.specs.declared.sides.Sides.{Sides}
 use Rattle.pair_core.specs.Setup.{Setup}
 use Rattle.pair_core.specs.Ledger.{Ledger, first_ledger, after, ledger_from, ledger, standing}
-use Rattle.pair_core.specs.Sides.{same_side, after_answer}
+use Rattle.pair_core.specs.Sides.{same_side, after_answer, of_side, with_side}
 use Rattle.pair_core.specs.Stops.{stop_from, stop_of}
 use Rattle.pair_core.specs.Lawful.{MayStand, LawfulFrom}
 use Rattle.pair_core.specs.Showings.{is_output, showings_of, shown_from}
 use Rattle.pair_core.specs.Played.{requests_of, answers_of}
-use Rattle.pair_core.specs.World.{shown_past_from}
+use Rattle.pair_core.specs.World.{shown_past_from, shown_past}
 use Rattle.pair_core.specs.Good.{marked_from}
 
 pub shift : (k n : ℕ) → k + suc n ≡ k + 1 + n
@@ -48,6 +50,14 @@ pub shown_past_snoc : (past : ℕ) (xs : List (ℕ × Side)) (x : ℕ × Side) (
     → shown_past_from past (xs ++ x ∷ []) s ≡ (if same_side x.1 s then x.0 + 1 else shown_past_from past xs s)
 shown_past_snoc past [] x s = refl
 shown_past_snoc past (y ∷ ys) x s = shown_past_snoc (if same_side y.1 s then y.0 + 1 else past) ys x s
+
+-- one past the last entry that each side showed, once a side showed entry k
+pub past_put : (past : Sides ℕ) (xs : List (ℕ × Side)) (k : ℕ) (s t : Side) → ((v : Side) → of_side past v ≡ shown_past xs v)
+    → of_side (with_side past s (k + 1)) t ≡ shown_past (xs ++ (k, s) ∷ []) t
+past_put past xs k A A h = sym (shown_past_snoc 0 xs (k, A) A)
+past_put past xs k A B h = h B ∙ sym (shown_past_snoc 0 xs (k, A) B)
+past_put past xs k B A h = h A ∙ sym (shown_past_snoc 0 xs (k, B) A)
+past_put past xs k B B h = sym (shown_past_snoc 0 xs (k, B) B)
 
 pub shown_snoc : (p : Setup) (g : Ledger) (es : List Entry) (e : Entry)
     → shown_from p g (es ++ e ∷ []) ≡ shown_from p g es ++ showings_of p.plan (after_answer (ledger_from p g es).standing e.answer) (g.moment + length es) e

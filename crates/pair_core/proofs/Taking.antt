@@ -19,8 +19,9 @@ use Rattle.pair_core.specs.declared.own.Own.{Own}
 use Rattle.pair_core.specs.Lawful.{MayStand, LawfulFrom}
 use Rattle.pair_core.specs.Stops.{stop_by, stop_of}
 use Rattle.pair_core.specs.Played.{requests_of, answers_of}
-use Rattle.pair_core.specs.declared.own.Parts.{Parts}
-use Rattle.pair_core.specs.World.{Log, taken_one, part_in, with_part}
+use Rattle.pair_core.specs.declared.sides.Sides.{Sides}
+use Rattle.pair_core.specs.World.{Log, taken_one}
+use Rattle.pair_core.specs.Sides.{of_side, with_side}
 use Rattle.pair_core.specs.Places.{lives_of, IsAt}
 use Rattle.pair_core.specs.Good.{GoodLog}
 use Rattle.pair_core.proofs.Lasts.{stop_snoc}
@@ -156,27 +157,27 @@ take_next es k e here =
     let within = slice_get_within es k e here in
     take_more es k e within ∙ ap (λ (x : Entry). take k es ++ x ∷ []) (get_or_from_slice_get es k e e here)
 
-part_put : (parts : Parts) (side : Side) (own : Own) → part_in (with_part parts side own) side ≡ own
+part_put : (parts : Sides Own) (side : Side) (own : Own) → of_side (with_side parts side own) side ≡ own
 part_put parts A own = refl
 part_put parts B own = refl
 
 -- what is kept of a side that has taken an entry
-pub put_taken : (parts new : Parts) (side : Side) (own : Own) (program : Program) (es : List Entry) (s : Part) → own ≡ part_in parts side
-    → new ≡ with_part parts side (record own { place = own.place + 1 })
-    → IsAt program (taken_one (part_in parts side)) es s → IsAt program (part_in new side) es s
+pub put_taken : (parts new : Sides Own) (side : Side) (own : Own) (program : Program) (es : List Entry) (s : Part) → own ≡ of_side parts side
+    → new ≡ with_side parts side (record own { place = own.place + 1 })
+    → IsAt program (taken_one (of_side parts side)) es s → IsAt program (of_side new side) es s
 put_taken parts new side own program es s is put h =
-    let same : part_in new side ≡ taken_one (part_in parts side) = ap (λ ps. part_in ps side) put ∙ (part_put parts side (record own { place = own.place + 1 }) ∙ ap taken_one is) in
+    let same : of_side new side ≡ taken_one (of_side parts side) = ap (λ ps. of_side ps side) put ∙ (part_put parts side (record own { place = own.place + 1 }) ∙ ap taken_one is) in
     subst (λ o. IsAt program o es s) (sym same) h
 
 -- a side that has appended an entry, and taken it, stands behind it
-pub put_added : (program now : Program) (parts mid new : Parts) (side : Side) (own : Own) (n : ℕ) (es all : List Entry) (e : Entry) (s : Part)
-    → now ≡ program → all ≡ es ++ e ∷ [] → mid ≡ parts → own ≡ part_in parts side → n ≡ own.place
-    → new ≡ with_part mid side (record own { place = n + 1 })
-    → IsAt program (taken_one (part_in parts side)) (es ++ e ∷ []) s → IsAt now (part_in new side) all s
+pub put_added : (program now : Program) (parts mid new : Sides Own) (side : Side) (own : Own) (n : ℕ) (es all : List Entry) (e : Entry) (s : Part)
+    → now ≡ program → all ≡ es ++ e ∷ [] → mid ≡ parts → own ≡ of_side parts side → n ≡ own.place
+    → new ≡ with_side mid side (record own { place = n + 1 })
+    → IsAt program (taken_one (of_side parts side)) (es ++ e ∷ []) s → IsAt now (of_side new side) all s
 put_added program now parts mid new side own n es all e s same longer kept is count put h =
     rw (same, longer)
     (put_taken parts new side own program (es ++ e ∷ []) s is
-    (put ∙ ap (λ q. with_part q side (record own { place = n + 1 })) kept ∙ ap (λ k. with_part parts side (record own { place = k + 1 })) count) h)
+    (put ∙ ap (λ q. with_side q side (record own { place = n + 1 })) kept ∙ ap (λ k. with_side parts side (record own { place = k + 1 })) count) h)
 
 -- all entries and the one that was added
 pub take_added : (es : List Entry) (k : ℕ) (e : Entry) → k ≡ length es → take (k + 1) (es ++ e ∷ []) ≡ es ++ e ∷ []

@@ -38,7 +38,7 @@ going_answer p g ask =
 
 -- two sides run, and this one is cut
 abbrev pub falls : Setup → Ledger → Side → Bool
-falls p g s = g.standing.a && g.standing.b && is_cut p.plan s g.moment
+falls p g s = g.standing.running.a && g.standing.running.b && is_cut p.plan s g.moment
 
 -- The lawful answer, given what the record says so far, by the first rule that applies: of two sides that run, the one that is
 -- cut is lost; a cycle that takes too long stops the CPU; else the plain answer.
@@ -52,7 +52,7 @@ MayAnswer p g ask answer = answer_at p g ask ≡ Some answer
 
 -- a side that runs is not cut
 abbrev pub someone_stands : Setup → Ledger → Bool
-someone_stands p g = (g.standing.a && not (is_cut p.plan A g.moment)) || (g.standing.b && not (is_cut p.plan B g.moment))
+someone_stands p g = (g.standing.running.a && not (is_cut p.plan A g.moment)) || (g.standing.running.b && not (is_cut p.plan B g.moment))
 
 -- An entry may stand: the record is not at its end, its last entry does not stop the CPU, a side that runs is not cut, and the
 -- answer is one that may be given.

@@ -15,11 +15,11 @@ use Rattle.pair_core.specs.declared.turns.Turn.TheVariants as turns
 use Rattle.pair_core.specs.declared.turns.Act.{Act}
 use Rattle.pair_core.specs.declared.turns.Act.TheVariants.{Over, Dead, Take, Show, Mark, Unmarked, Behind, Append}
 use Rattle.pair_core.specs.declared.own.Own.{Own}
-use Rattle.pair_core.specs.declared.own.Parts.{Parts}
+use Rattle.pair_core.specs.declared.sides.Sides.{Sides}
 use Rattle.pair_core.specs.Setup.{Setup}
 use Rattle.pair_core.specs.Ledger.{ledger, standing}
 use Rattle.pair_core.specs.Lawful.{answer_at}
-use Rattle.pair_core.specs.Sides.{same_side, other_side, runs}
+use Rattle.pair_core.specs.Sides.{same_side, other_side, of_side, with_side, runs}
 use Rattle.pair_core.specs.declared.standing.Standing.{Standing}
 use Rattle.pair_core.specs.Cuts.{is_cut, is_late}
 use Rattle.pair_core.specs.Stops.{stop_of}
@@ -36,19 +36,11 @@ pub record Log : Type 0 where
 -- the log, and what is kept of each side
 pub record World : Type 0 where
   pub log : Log
-  pub parts : Parts
-
-abbrev pub part_in : Parts → Side → Own
-part_in parts A = parts.a
-part_in parts B = parts.b
-
-abbrev pub with_part : Parts → Side → Own → Parts
-with_part parts A own = record parts { a = own }
-with_part parts B own = record parts { b = own }
+  pub parts : Sides Own
 
 -- what is kept of one side
 abbrev pub part : World → Side → Own
-part w s = part_in w.parts s
+part w s = of_side w.parts s
 
 -- who runs after the record
 abbrev pub standing_in : Setup → Log → Standing
@@ -157,13 +149,13 @@ abbrev pub taken_one : Own → Own
 taken_one own = record own { place = own.place + 1 }
 
 abbrev pub with_own : World → Side → Own → World
-with_own w s own = record w { parts = with_part w.parts s own }
+with_own w s own = record w { parts = with_side w.parts s own }
 
 -- the side appends the entry and takes it; where none may come, which no visit meets, nothing is done
 abbrev pub appended : World → Side → Option Entry → Stepped
 appended w s None = record { world = w; answer = turns.Dead }
 appended w s (Some e) = record {
-  world = record { log = with_entry w.log e; parts = with_part w.parts s (taken_one (part w s)) };
+  world = record { log = with_entry w.log e; parts = with_side w.parts s (taken_one (part w s)) };
   answer = turns.Answered (length w.log.entries);
 }
 
