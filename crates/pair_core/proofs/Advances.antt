@@ -12,8 +12,10 @@ use Rattle.plant_script.specs.Plan.{Plan}
 use Rattle.pair_core.specs.declared.cuts.Cuts.{Cuts}
 use Rattle.pair_core.specs.declared.cuts.Soundness.{Soundness}
 use Rattle.pair_core.specs.declared.cuts.Soundness.TheVariants.{Sound}
+use Rattle.pair_core.specs.declared.sides.Sides.{Sides}
+use Rattle.pair_core.specs.Sides.{of_side}
 use Rattle.pair_core.specs.Cuts.{by_line, soundness, soundness_from}
-use Rattle.pair_core.specs.CutsKept.{sound_in, IsCutsBefore, IsCutsAt}
+use Rattle.pair_core.specs.CutsKept.{IsCutsBefore, IsCutsAt}
 
 abbrev Passed : ℕ → List Event → Type 0
 Passed moment es = All (λ (event : Event). event.moment ≤ moment) es
@@ -57,19 +59,19 @@ goes_on plan m n cuts le h = record {
 }
 
 -- nothing is applied at first
-pub nothing_applied : (plan : Plan) (m : ℕ) → IsCutsBefore plan m (record { applied = 0; a = Sound; b = Sound })
+pub nothing_applied : (plan : Plan) (m : ℕ) → IsCutsBefore plan m (record { applied = 0; made = record { a = Sound; b = Sound } })
 nothing_applied plan m = record {
   within = omega arith;
   passed = All-nil (λ (event : Event). event.moment ≤ m);
-  sides = λ s. elim s as (λ t. sound_in (record { applied = 0; a = Sound; b = Sound }) t ≡ soundness_from Sound (take 0 plan.events) t m) [ A ↦ refl | B ↦ refl ];
+  sides = λ s. elim s as (λ t. of_side (record { a = Sound; b = Sound }) t ≡ soundness_from Sound (take 0 plan.events) t m) [ A ↦ refl | B ↦ refl ];
 }
 
 -- a line more is applied
 pub one_applied : (plan : Plan) (m : ℕ) (cuts : Cuts) (e : Event) → IsCutsBefore plan m cuts → cuts.applied < length plan.events → e ≡ get_or plan.events cuts.applied e → e.moment ≤ m
-    → IsCutsBefore plan m (record { applied = cuts.applied + 1; a = by_line e.what A cuts.a; b = by_line e.what B cuts.b })
+    → IsCutsBefore plan m (record { applied = cuts.applied + 1; made = record { a = by_line e.what A cuts.made.a; b = by_line e.what B cuts.made.b } })
 one_applied plan m cuts e h less here due =
     let k = cuts.applied in
-    let new : Cuts = record { applied = k + 1; a = by_line e.what A cuts.a; b = by_line e.what B cuts.b } in
+    let new : Cuts = record { applied = k + 1; made = record { a = by_line e.what A cuts.made.a; b = by_line e.what B cuts.made.b } } in
     let more : take (k + 1) plan.events ≡ take k plan.events ++ e ∷ [] = take_more plan.events k e less ∙ ap (λ (x : Event). take k plan.events ++ x ∷ []) (sym here) in
     let test : nat_le e.moment m ≡ true = grind (arith, nat_tests) in
     let one : (s : Side) → soundness_from Sound (take (k + 1) plan.events) s m ≡ by_line e.what s (soundness_from Sound (take k plan.events) s m) =
@@ -77,7 +79,7 @@ one_applied plan m cuts e h less here due =
     record {
       within = omega (arith, less);
       passed = subst (Passed m) (sym more) (All-append (λ (event : Event). event.moment ≤ m) (take k plan.events) (e ∷ []) h.passed (All-cons (λ (event : Event). event.moment ≤ m) e [] due (All-nil (λ (event : Event). event.moment ≤ m))));
-      sides = λ s. elim s as (λ t. sound_in new t ≡ soundness_from Sound (take (k + 1) plan.events) t m) [
+      sides = λ s. elim s as (λ t. of_side new.made t ≡ soundness_from Sound (take (k + 1) plan.events) t m) [
         | A ↦ ap (by_line e.what A) (h.sides A) ∙ sym (one A)
         | B ↦ ap (by_line e.what B) (h.sides B) ∙ sym (one B)
       ];
@@ -119,17 +121,17 @@ stops_here plan m cuts events k d same place less later rising h =
 
 -- the next line has passed: it is applied
 pub goes_by : (plan : Plan) (m : ℕ) (cuts : Cuts) (events : List Event) (k : ℕ) (d : Event) (a b : Soundness) → events ≡ plan.events → cuts.applied ≡ k → k < length events → (get_or events k d).moment ≤ m
-    → a ≡ by_line (get_or events k d).what A cuts.a → b ≡ by_line (get_or events k d).what B cuts.b → IsCutsBefore plan m cuts → IsCutsBefore plan m (record { applied = k + 1; a = a; b = b })
+    → a ≡ by_line (get_or events k d).what A cuts.made.a → b ≡ by_line (get_or events k d).what B cuts.made.b → IsCutsBefore plan m cuts → IsCutsBefore plan m (record { applied = k + 1; made = record { a = a; b = b } })
 goes_by plan m cuts events k d a b same place less due is_a is_b h =
     let e = get_or events k d in
     let within : k < length plan.events = subst (λ (es : List Event). k < length es) same less in
     let here : e ≡ get_or plan.events k e = ap (λ (es : List Event). get_or es k d) same ∙ get_or_default plan.events k d e within in
-    let next : IsCutsBefore plan m (record { applied = cuts.applied + 1; a = by_line e.what A cuts.a; b = by_line e.what B cuts.b }) =
+    let next : IsCutsBefore plan m (record { applied = cuts.applied + 1; made = record { a = by_line e.what A cuts.made.a; b = by_line e.what B cuts.made.b } }) =
     one_applied plan m cuts e h (subst (λ n. n < length plan.events) (sym place) within) (here ∙ ap (λ n. get_or plan.events n e) (sym place)) due in
-    let new : Cuts = record { applied = k + 1; a = a; b = b } in
-    let all : record { applied = cuts.applied + 1; a = by_line e.what A cuts.a; b = by_line e.what B cuts.b } ≡ new =
-    ap (λ n. record { applied = n + 1; a = by_line e.what A cuts.a; b = by_line e.what B cuts.b }) place
-    ∙ (ap (λ x. record { applied = k + 1; a = x; b = by_line e.what B cuts.b }) (sym is_a) ∙ ap (λ x. record { applied = k + 1; a = a; b = x }) (sym is_b)) in
+    let new : Cuts = record { applied = k + 1; made = record { a = a; b = b } } in
+    let all : record { applied = cuts.applied + 1; made = record { a = by_line e.what A cuts.made.a; b = by_line e.what B cuts.made.b } } ≡ new =
+    ap (λ n. record { applied = n + 1; made = record { a = by_line e.what A cuts.made.a; b = by_line e.what B cuts.made.b } }) place
+    ∙ (ap (λ x. record { applied = k + 1; made = record { a = x; b = by_line e.what B cuts.made.b } }) (sym is_a) ∙ ap (λ x. record { applied = k + 1; made = record { a = a; b = x } }) (sym is_b)) in
     subst (IsCutsBefore plan m) all next
 
 -- no line is left

@@ -1,108 +1,252 @@
--- The lawful answer: which it is, that it fits, and when it stops the CPU.
-use Rattle.std.proofs.Common.{◌≡◌, ◌∙◌, ℕ, Bool, true, false, ◌&&◌, Option, Some, None, refl, ap, MatchBool}
-use Rattle.std.specs.Prelude.{if◌then◌else◌}
+-- The lawful answer: of which kind it is, that it fits, and when it stops the CPU.
+use Rattle.std.proofs.Common.{◌≡◌, ◌∙◌, ℕ, Bool, true, false, ◌&&◌, Option, Some, None, refl, ap, sym, subst, inl, inr}
+use Rattle.std.specs.Prelude.{if◌then◌else◌, ◌⊎◌}
 use Rattle.std.proofs.lemmas.Bool.{eq-eqb}
+use Rattle.s7_events.specs.declared.entry.Side.{Side}
 use Rattle.s7_events.specs.declared.entry.Side.TheVariants.{A, B}
 use Rattle.s7_events.specs.declared.entry.Loss.TheVariants.{Failed}
 use Rattle.s7_events.specs.declared.entry.Ask.{Ask}
 use Rattle.s7_events.specs.declared.entry.Ask.TheVariants as asks
+use Rattle.s7_events.specs.declared.entry.StopCode.TheVariants as codes
 use Rattle.s7_events.specs.declared.entry.Request.{Request}
 use Rattle.s7_events.specs.declared.entry.Answer.{Answer}
 use Rattle.s7_events.specs.declared.entry.Answer.TheVariants as answers
 use Rattle.mc_machine.specs.Meaning.{takes, is_dated, stops_cpu, request_of}
 use Rattle.plant_script.specs.Plan.{Plan}
+use Rattle.plant_script.specs.InputImage.{input_image}
 use Rattle.pair_core.specs.declared.standing.Standing.{Standing}
+use Rattle.pair_core.specs.Setup.{Setup}
+use Rattle.pair_core.specs.Ledger.{Ledger}
+use Rattle.pair_core.specs.Sides.{other_side, runs, after_answer}
 use Rattle.pair_core.specs.Cuts.{is_cut}
 use Rattle.pair_core.specs.Stops.{stop_by}
-use Rattle.pair_core.specs.Lawful.{IsPlainAnswer, IsMonitoredAnswer, IsLawfulAnswer}
+use Rattle.pair_core.specs.Losses.{loses_by}
 use Rattle.pair_core.specs.Monitor.{is_overdue}
-use Rattle.s7_events.specs.declared.entry.StopCode.TheVariants as codes
-use Rattle.pair_core.specs.Turns.{plain_answer, monitored_answer, answer_at}
+use Rattle.pair_core.specs.Lawful.{plain_answer, going_answer, falls, answer_at, MayAnswer}
 
-plain_is : (plan : Plan) (k : ℕ) (ask : Ask) (answer : Answer) → plain_answer plan k ask ≡ Some answer → IsPlainAnswer plan k ask answer
-plain_is plan k (asks.Outputs image) answer h = cc
-plain_is plan k asks.Inputs answer h = cc
-plain_is plan k asks.Cycle answer h = cc
-plain_is plan k asks.Now answer h = cc
-plain_is plan k asks.Tick answer h = cc
-plain_is plan k asks.Retrigger answer h = cc
-plain_is plan k (asks.Reply value) answer h = cc
-plain_is plan k (asks.Stop code) answer h = cc
-plain_is plan k (asks.ReadP addr width) answer h = absurd cc
-plain_is plan k (asks.WriteP addr width value) answer h = absurd cc
+-- what holds of every lawful answer --------------------------------------------
 
-monitored_by : (plan : Plan) (k : ℕ) (ask : Ask) (answer : Answer) (overdue : Bool)
-    → (if overdue then Some (answers.CpuStop codes.Cycle) else plain_answer plan k ask) ≡ Some answer
-    → MatchBool overdue (answer ≡ answers.CpuStop codes.Cycle) (IsPlainAnswer plan k ask answer)
-monitored_by plan k ask answer true h = cc
-monitored_by plan k ask answer false h = plain_is plan k ask answer h
+going_by : (P : Answer → Type 0) (plan : Plan) (k : ℕ) (ask : Ask) (answer : Answer) (overdue : Bool)
+    → (if overdue then Some (answers.CpuStop codes.Cycle) else plain_answer plan k ask) ≡ Some answer → P (answers.CpuStop codes.Cycle)
+    → ((a : Answer) → plain_answer plan k ask ≡ Some a → P a) → P answer
+going_by P plan k ask answer true is stop plain = let same : answers.CpuStop codes.Cycle ≡ answer = cc in subst P same stop
+going_by P plan k ask answer false is stop plain = plain answer is
 
-lawful_by : (plan : Plan) (watch : Option ℕ) (k : ℕ) (ask : Ask) (answer : Answer) (a b : Bool)
-    → (if a then Some (answers.Lost A Failed) else (if b then Some (answers.Lost B Failed) else monitored_answer plan watch k ask)) ≡ Some answer
-    → MatchBool a (answer ≡ answers.Lost A Failed) (MatchBool b (answer ≡ answers.Lost B Failed) (IsMonitoredAnswer plan watch k ask answer))
-lawful_by plan watch k ask answer true b h = cc
-lawful_by plan watch k ask answer false true h = cc
-lawful_by plan watch k ask answer false false h = monitored_by plan k ask answer (is_overdue watch k) h
+going_any : (P : Answer → Type 0) (p : Setup) (g : Ledger) (ask : Ask) (answer : Answer) → going_answer p g ask ≡ Some answer → P (answers.CpuStop codes.Cycle)
+    → ((a : Answer) → plain_answer p.plan g.moment ask ≡ Some a → P a) → P answer
+unfolding going_answer
+going_any P p g ask answer is stop plain = going_by P p.plan g.moment ask answer (is_overdue p.program g.watch g.moment) is stop plain
 
--- what a visit answers is the lawful answer
-pub lawful_is : (plan : Plan) (st : Standing) (watch : Option ℕ) (k : ℕ) (ask : Ask) (answer : Answer) → answer_at plan st watch k ask ≡ Some answer → IsLawfulAnswer plan st watch k ask answer
-lawful_is plan st watch k ask answer h = lawful_by plan watch k ask answer (st.a && st.b && is_cut plan A k) (st.a && st.b && is_cut plan B k) h
+any_by : (P : Answer → Type 0) (p : Setup) (g : Ledger) (ask : Ask) (answer : Answer) (a b : Bool)
+    → (if a then Some (answers.Lost A Failed) else (if b then Some (answers.Lost B Failed) else going_answer p g ask)) ≡ Some answer
+    → ((t : Side) → P (answers.Lost t Failed)) → P (answers.CpuStop codes.Cycle) → ((a : Answer) → plain_answer p.plan g.moment ask ≡ Some a → P a) → P answer
+any_by P p g ask answer true b is lost stop plain = let same : answers.Lost A Failed ≡ answer = cc in subst P same (lost A)
+any_by P p g ask answer false true is lost stop plain = let same : answers.Lost B Failed ≡ answer = cc in subst P same (lost B)
+any_by P p g ask answer false false is lost stop plain = going_any P p g ask answer is stop plain
 
-plain_takes : (plan : Plan) (k prio : ℕ) (ask : Ask) (answer : Answer) → IsPlainAnswer plan k ask answer → takes (request_of ask prio) answer ≡ true
-plain_takes plan k prio (asks.Outputs image) answer e = ap (takes (request_of (asks.Outputs image) prio)) e
-plain_takes plan k prio asks.Inputs answer e = ap (takes (request_of asks.Inputs prio)) e
-plain_takes plan k prio asks.Cycle answer e = ap (takes (request_of asks.Cycle prio)) e
-plain_takes plan k prio asks.Now answer e = ap (takes (request_of asks.Now prio)) e
-plain_takes plan k prio asks.Tick answer e = ap (takes (request_of asks.Tick prio)) e
-plain_takes plan k prio asks.Retrigger answer e = ap (takes (request_of asks.Retrigger prio)) e
-plain_takes plan k prio (asks.Reply value) answer e = ap (takes (request_of (asks.Reply value) prio)) e
-plain_takes plan k prio (asks.Stop code) answer e = ap (takes (request_of (asks.Stop code) prio)) e
-plain_takes plan k prio (asks.ReadP addr width) answer e = absurd e
-plain_takes plan k prio (asks.WriteP addr width value) answer e = absurd e
+-- what holds of the loss of a side, of the stop of the CPU and of plain answers holds of every answer that may be given
+pub answer_any : (P : Answer → Type 0) (p : Setup) (g : Ledger) (ask : Ask) (answer : Answer) → MayAnswer p g ask answer
+    → ((t : Side) → P (answers.Lost t Failed)) → P (answers.CpuStop codes.Cycle) → ((a : Answer) → plain_answer p.plan g.moment ask ≡ Some a → P a) → P answer
+answer_any P p g ask answer is lost stop plain = any_by P p g ask answer (falls p g A) (falls p g B) is lost stop plain
 
-monitored_takes : (plan : Plan) (k : ℕ) (request : Request) (answer : Answer) (overdue : Bool)
-    → MatchBool overdue (answer ≡ answers.CpuStop codes.Cycle) (IsPlainAnswer plan k request.ask answer) → takes request answer ≡ true
-monitored_takes plan k request answer true h = ap (takes request) h
-monitored_takes plan k request answer false h = plain_takes plan k request.prio request.ask answer h
+given : (P : Answer → Type 0) (x a : Answer) → Some x ≡ Some a → P x → P a
+given P x a is h = let same : x ≡ a = cc in subst P same h
 
-takes_by : (plan : Plan) (watch : Option ℕ) (k : ℕ) (request : Request) (answer : Answer) (a b : Bool)
-    → MatchBool a (answer ≡ answers.Lost A Failed) (MatchBool b (answer ≡ answers.Lost B Failed) (IsMonitoredAnswer plan watch k request.ask answer))
-    → takes request answer ≡ true
-takes_by plan watch k request answer true b h = ap (takes request) h
-takes_by plan watch k request answer false true h = ap (takes request) h
-takes_by plan watch k request answer false false h = monitored_takes plan k request answer (is_overdue watch k) h
+-- a plain answer is Done, the input image, Go or the moment
+pub plain_any : (P : Answer → Type 0) (plan : Plan) (k : ℕ) (ask : Ask) (a : Answer) → plain_answer plan k ask ≡ Some a
+    → P answers.Done → P (answers.Image (input_image plan k)) → P answers.Go → P (answers.Now k) → P a
+plain_any P plan k (asks.Outputs image) a is done inputs go now = given P answers.Done a is done
+plain_any P plan k asks.Inputs a is done inputs go now = given P (answers.Image (input_image plan k)) a is inputs
+plain_any P plan k asks.Cycle a is done inputs go now = given P answers.Go a is go
+plain_any P plan k asks.Now a is done inputs go now = given P (answers.Now k) a is now
+plain_any P plan k asks.Tick a is done inputs go now = given P answers.Done a is done
+plain_any P plan k asks.Retrigger a is done inputs go now = given P answers.Done a is done
+plain_any P plan k (asks.Reply value) a is done inputs go now = given P answers.Done a is done
+plain_any P plan k (asks.Stop code) a is done inputs go now = given P answers.Done a is done
+plain_any P plan k (asks.ReadP addr width) a is done inputs go now = absurd cc
+plain_any P plan k (asks.WriteP addr width value) a is done inputs go now = absurd cc
 
--- the lawful answer is one that the CPU takes
-pub lawful_takes : (plan : Plan) (st : Standing) (watch : Option ℕ) (k : ℕ) (request : Request) (answer : Answer) → IsLawfulAnswer plan st watch k request.ask answer → takes request answer ≡ true
-lawful_takes plan st watch k request answer h = takes_by plan watch k request answer (st.a && st.b && is_cut plan A k) (st.a && st.b && is_cut plan B k) h
+-- of which kind it is ------------------------------------------------------------
 
-plain_dated : (plan : Plan) (k : ℕ) (ask : Ask) (answer : Answer) → IsPlainAnswer plan k ask answer → is_dated k answer ≡ true
-plain_dated plan k (asks.Outputs image) answer e = ap (is_dated k) e
-plain_dated plan k asks.Inputs answer e = ap (is_dated k) e
-plain_dated plan k asks.Cycle answer e = ap (is_dated k) e
-plain_dated plan k asks.Now answer e = ap (is_dated k) e ∙ eq-eqb k k refl
-plain_dated plan k asks.Tick answer e = ap (is_dated k) e
-plain_dated plan k asks.Retrigger answer e = ap (is_dated k) e
-plain_dated plan k (asks.Reply value) answer e = ap (is_dated k) e
-plain_dated plan k (asks.Stop code) answer e = ap (is_dated k) e
-plain_dated plan k (asks.ReadP addr width) answer e = absurd e
-plain_dated plan k (asks.WriteP addr width value) answer e = absurd e
+-- by this answer a side comes back
+abbrev pub comes_back : Answer → Bool
+comes_back (answers.Back s) = true
+comes_back answer = false
 
-monitored_dated : (plan : Plan) (k : ℕ) (ask : Ask) (answer : Answer) (overdue : Bool)
-    → MatchBool overdue (answer ≡ answers.CpuStop codes.Cycle) (IsPlainAnswer plan k ask answer) → is_dated k answer ≡ true
-monitored_dated plan k ask answer true h = ap (is_dated k) h
-monitored_dated plan k ask answer false h = plain_dated plan k ask answer h
+-- the answer takes a side out, of two that run, that is cut
+pub record IsLoss (p : Setup) (g : Ledger) (t : Side) (answer : Answer) : Type 0 where
+  pub is : answer ≡ answers.Lost t Failed
+  pub a : g.standing.running.a ≡ true
+  pub b : g.standing.running.b ≡ true
+  pub cut : is_cut p.plan t g.moment ≡ true
 
-dated_by : (plan : Plan) (watch : Option ℕ) (k : ℕ) (ask : Ask) (answer : Answer) (a b : Bool)
-    → MatchBool a (answer ≡ answers.Lost A Failed) (MatchBool b (answer ≡ answers.Lost B Failed) (IsMonitoredAnswer plan watch k ask answer))
-    → is_dated k answer ≡ true
-dated_by plan watch k ask answer true b h = ap (is_dated k) h
-dated_by plan watch k ask answer false true h = ap (is_dated k) h
-dated_by plan watch k ask answer false false h = monitored_dated plan k ask answer (is_overdue watch k) h
+-- by the answer no side is lost and none comes back
+pub record LeavesStanding (answer : Answer) : Type 0 where
+  pub same : (st : Standing) → after_answer st answer ≡ st
+  pub keeps : (s : Side) → loses_by answer s ≡ false
+  pub stays : comes_back answer ≡ false
 
--- the lawful answer, if it is Now, is that of its own moment
-pub lawful_dated : (plan : Plan) (st : Standing) (watch : Option ℕ) (k : ℕ) (ask : Ask) (answer : Answer) → IsLawfulAnswer plan st watch k ask answer → is_dated k answer ≡ true
-lawful_dated plan st watch k ask answer h = dated_by plan watch k ask answer (st.a && st.b && is_cut plan A k) (st.a && st.b && is_cut plan B k) h
+-- the answer leaves the standing, and of two sides that run none is cut
+pub record IsCalm (p : Setup) (g : Ledger) (answer : Answer) : Type 0 where
+  pub leaves : LeavesStanding answer
+  pub uncut : (s : Side) → falls p g s ≡ false
+
+abbrev pub Kind : Setup → Ledger → Answer → Type 0
+Kind p g answer = ((t : Side) × IsLoss p g t answer) ⊎ IsCalm p g answer
+
+plain_leaves : (plan : Plan) (k : ℕ) (ask : Ask) (a : Answer) → plain_answer plan k ask ≡ Some a → LeavesStanding a
+plain_leaves plan k ask a is =
+    plain_any LeavesStanding plan k ask a is
+    (record { same = λ st. refl; keeps = λ s. refl; stays = refl }) (record { same = λ st. refl; keeps = λ s. refl; stays = refl })
+    (record { same = λ st. refl; keeps = λ s. refl; stays = refl }) (record { same = λ st. refl; keeps = λ s. refl; stays = refl })
+
+going_leaves : (p : Setup) (g : Ledger) (ask : Ask) (answer : Answer) → going_answer p g ask ≡ Some answer → LeavesStanding answer
+going_leaves p g ask answer is =
+    going_any LeavesStanding p g ask answer is (record { same = λ st. refl; keeps = λ s. refl; stays = refl }) (plain_leaves p.plan g.moment ask)
+
+and_left : (x y : Bool) → (x && y) ≡ true → x ≡ true
+and_left true y h = refl
+and_left false y h = absurd cc
+
+and_right : (x y : Bool) → (x && y) ≡ true → y ≡ true
+and_right true y h = h
+and_right false y h = absurd cc
+
+loss_of : (p : Setup) (g : Ledger) (t : Side) (answer : Answer) → falls p g t ≡ true → Some (answers.Lost t Failed) ≡ Some answer → IsLoss p g t answer
+loss_of p g t answer h is =
+    let both = and_left (g.standing.running.a && g.standing.running.b) (is_cut p.plan t g.moment) h in
+    let same : answers.Lost t Failed ≡ answer = cc in
+    record {
+      is = sym same;
+      a = and_left g.standing.running.a g.standing.running.b both;
+      b = and_right g.standing.running.a g.standing.running.b both;
+      cut = and_right (g.standing.running.a && g.standing.running.b) (is_cut p.plan t g.moment) h;
+    }
+
+kind_by : (p : Setup) (g : Ledger) (ask : Ask) (answer : Answer) (fa fb : Bool) → falls p g A ≡ fa → falls p g B ≡ fb
+    → (if fa then Some (answers.Lost A Failed) else (if fb then Some (answers.Lost B Failed) else going_answer p g ask)) ≡ Some answer → Kind p g answer
+kind_by p g ask answer true fb ha hb is = inl (A, loss_of p g A answer ha is)
+kind_by p g ask answer false true ha hb is = inl (B, loss_of p g B answer hb is)
+kind_by p g ask answer false false ha hb is = inr (record {
+  leaves = going_leaves p g ask answer is;
+  uncut = λ s. elim s as (λ v. falls p g v ≡ false) [ A ↦ ha | B ↦ hb ];
+})
+
+-- a lawful answer is the loss of a side that is cut, of two that run, or it leaves the standing
+pub answer_kind : (p : Setup) (g : Ledger) (ask : Ask) (answer : Answer) → MayAnswer p g ask answer → Kind p g answer
+answer_kind p g ask answer is = kind_by p g ask answer (falls p g A) (falls p g B) refl refl is
+
+-- no side comes back by it
+pub kind_stays : (p : Setup) (g : Ledger) (answer : Answer) → Kind p g answer → comes_back answer ≡ false
+kind_stays p g answer (inl l) = ap comes_back l.1.is
+kind_stays p g answer (inr c) = c.leaves.stays
+
+lost_same : (u t : Side) → loses_by (answers.Lost u Failed) t ≡ true → u ≡ t
+lost_same A A h = refl
+lost_same A B h = absurd cc
+lost_same B A h = absurd cc
+lost_same B B h = refl
+
+both_run : (st : Standing) (t : Side) → st.running.a ≡ true → st.running.b ≡ true → runs st t ≡ true
+both_run st A a b = a
+both_run st B a b = b
+
+-- a side that it takes out failed
+pub kind_lost : (p : Setup) (g : Ledger) (answer : Answer) (t : Side) → Kind p g answer → loses_by answer t ≡ true → IsLoss p g t answer
+kind_lost p g answer t (inl l) h =
+    let same : l.0 ≡ t = lost_same l.0 t (subst (λ x. loses_by x t ≡ true) l.1.is h) in
+    subst (λ v. IsLoss p g v answer) same l.1
+kind_lost p g answer t (inr c) h = absurd (let no = c.leaves.keeps t in cc)
+
+-- that side runs and is cut
+pub lost_was_cut : (p : Setup) (g : Ledger) (answer : Answer) (t : Side) → Kind p g answer → loses_by answer t ≡ true → (is_cut p.plan t g.moment ≡ true) × (runs g.standing t ≡ true)
+lost_was_cut p g answer t kind h = let l = kind_lost p g answer t kind h in (l.cut, both_run g.standing t l.a l.b)
+
+-- who runs after it ---------------------------------------------------------------
+
+-- of the sides that run after an answer none is cut at its moment, and each ran before; and the master runs
+pub record Fresh (p : Setup) (g : Ledger) (answer : Answer) : Type 0 where
+  pub uncut : (t : Side) → runs (after_answer g.standing answer) t ≡ true → is_cut p.plan t g.moment ≡ false
+  pub ran : (t : Side) → runs (after_answer g.standing answer) t ≡ true → runs g.standing t ≡ true
+  pub master : runs (after_answer g.standing answer) (after_answer g.standing answer).master ≡ true
+
+lost_runs : (st : Standing) (t v : Side) → runs (after_answer st (answers.Lost t Failed)) v ≡ true → (v ≡ other_side t) × (runs st v ≡ true)
+lost_runs st A A r = absurd cc
+lost_runs st A B r = (refl, r)
+lost_runs st B A r = (refl, r)
+lost_runs st B B r = absurd cc
+
+lost_master : (st : Standing) (t : Side) → st.running.a ≡ true → st.running.b ≡ true → runs (after_answer st (answers.Lost t Failed)) (after_answer st (answers.Lost t Failed)).master ≡ true
+lost_master st A a b = b
+lost_master st B a b = a
+
+-- of a side that is not cut and one that is, each is the other one
+apart : (s t : Side) (cut : Side → Bool) → cut s ≡ false → cut t ≡ true → other_side t ≡ s
+apart A A cut here there = absurd cc
+apart A B cut here there = refl
+apart B A cut here there = refl
+apart B B cut here there = absurd cc
+
+fresh_loss : (p : Setup) (g : Ledger) (s t : Side) → is_cut p.plan s g.moment ≡ false → g.standing.running.a ≡ true → g.standing.running.b ≡ true → is_cut p.plan t g.moment ≡ true
+    → Fresh p g (answers.Lost t Failed)
+fresh_loss p g s t uncut a b cut = record {
+  uncut = λ v r. (
+      let same : v ≡ s = (lost_runs g.standing t v r).0 ∙ apart s t (λ x. is_cut p.plan x g.moment) uncut cut in
+      subst (λ x. is_cut p.plan x g.moment ≡ false) (sym same) uncut
+      );
+  ran = λ v r. (lost_runs g.standing t v r).1;
+  master = lost_master g.standing t a b;
+}
+
+third : (x y z : Bool) → x ≡ true → y ≡ true → (x && y && z) ≡ false → z ≡ false
+third true true z hx hy h = h
+third false y z hx hy h = absurd cc
+third true false z hx hy h = absurd cc
+
+-- where nobody falls, a side that runs is not cut, if the visitor is not
+calm_uncut : (p : Setup) (g : Ledger) (s t : Side) → runs g.standing s ≡ true → is_cut p.plan s g.moment ≡ false → ((v : Side) → falls p g v ≡ false) → runs g.standing t ≡ true
+    → is_cut p.plan t g.moment ≡ false
+calm_uncut p g A A run uncut none r = uncut
+calm_uncut p g A B run uncut none r = third g.standing.running.a g.standing.running.b (is_cut p.plan B g.moment) run r (none B)
+calm_uncut p g B A run uncut none r = third g.standing.running.a g.standing.running.b (is_cut p.plan A g.moment) r run (none A)
+calm_uncut p g B B run uncut none r = uncut
+
+-- what holds of the standing after the answer, where a side that is not cut adds it
+pub fresh_by : (p : Setup) (g : Ledger) (answer : Answer) (s : Side) → Kind p g answer → runs g.standing g.standing.master ≡ true → runs g.standing s ≡ true → is_cut p.plan s g.moment ≡ false
+    → Fresh p g answer
+fresh_by p g answer s (inl l) master run uncut = subst (Fresh p g) (sym l.1.is) (fresh_loss p g s l.0 uncut l.1.a l.1.b l.1.cut)
+fresh_by p g answer s (inr c) master run uncut =
+    let same = c.leaves.same g.standing in
+    record {
+      uncut = λ t r. calm_uncut p g s t run uncut c.uncut (subst (λ st. runs st t ≡ true) same r);
+      ran = λ t r. subst (λ st. runs st t ≡ true) same r;
+      master = rw same master;
+    }
+
+-- that it fits ----------------------------------------------------------------------
+
+plain_takes : (plan : Plan) (k : ℕ) (prio : ℕ) (ask : Ask) (answer : Answer) → plain_answer plan k ask ≡ Some answer → takes (request_of ask prio) answer ≡ true
+plain_takes plan k prio (asks.Outputs image) answer e = given (λ a. takes (request_of (asks.Outputs image) prio) a ≡ true) answers.Done answer e refl
+plain_takes plan k prio asks.Inputs answer e = given (λ a. takes (request_of asks.Inputs prio) a ≡ true) (answers.Image (input_image plan k)) answer e refl
+plain_takes plan k prio asks.Cycle answer e = given (λ a. takes (request_of asks.Cycle prio) a ≡ true) answers.Go answer e refl
+plain_takes plan k prio asks.Now answer e = given (λ a. takes (request_of asks.Now prio) a ≡ true) (answers.Now k) answer e refl
+plain_takes plan k prio asks.Tick answer e = given (λ a. takes (request_of asks.Tick prio) a ≡ true) answers.Done answer e refl
+plain_takes plan k prio asks.Retrigger answer e = given (λ a. takes (request_of asks.Retrigger prio) a ≡ true) answers.Done answer e refl
+plain_takes plan k prio (asks.Reply value) answer e = given (λ a. takes (request_of (asks.Reply value) prio) a ≡ true) answers.Done answer e refl
+plain_takes plan k prio (asks.Stop code) answer e = given (λ a. takes (request_of (asks.Stop code) prio) a ≡ true) answers.Done answer e refl
+plain_takes plan k prio (asks.ReadP addr width) answer e = absurd cc
+plain_takes plan k prio (asks.WriteP addr width value) answer e = absurd cc
+
+-- a lawful answer is one that the CPU takes
+pub lawful_takes : (p : Setup) (g : Ledger) (request : Request) (answer : Answer) → MayAnswer p g request.ask answer → takes request answer ≡ true
+lawful_takes p g request answer may =
+    answer_any (λ a. takes request a ≡ true) p g request.ask answer may (λ t. refl) refl (plain_takes p.plan g.moment request.prio request.ask)
+
+-- a lawful answer, if it is Now, is that of its own moment
+pub lawful_dated : (p : Setup) (g : Ledger) (ask : Ask) (answer : Answer) → MayAnswer p g ask answer → is_dated g.moment answer ≡ true
+lawful_dated p g ask answer may =
+    answer_any (λ a. is_dated g.moment a ≡ true) p g ask answer may (λ t. refl) refl
+    (λ a is. plain_any (λ x. is_dated g.moment x ≡ true) p.plan g.moment ask a is refl refl refl (eq-eqb g.moment g.moment refl))
 
 -- the record and the CPU agree on what stops it
 pub not_stopping : (ask : Ask) (answer : Answer) → stop_by ask answer ≡ None → stops_cpu ask answer ≡ false

@@ -10,7 +10,9 @@ use Rattle.plant_script.specs.Plan.{Plan, IsPlan}
 use Rattle.pair_core.specs.declared.standing.Standing.{Standing}
 use Rattle.pair_core.specs.declared.cuts.Soundness.{Soundness}
 use Rattle.pair_core.specs.declared.cuts.Soundness.TheVariants.{Sound}
-use Rattle.pair_core.specs.Sides.{same_side, other_side, runs, after}
+use Rattle.pair_core.specs.Setup.{Setup}
+use Rattle.pair_core.specs.Ledger.{Ledger, after}
+use Rattle.pair_core.specs.Sides.{same_side, other_side, runs}
 use Rattle.pair_core.specs.Cuts.{by_line, soundness_from, is_failed, is_cut, is_late}
 use Rattle.pair_core.specs.Showings.{is_output, showings_of, showers, showers_by, tagged, shown_from}
 use Rattle.pair_core.specs.World.{shown_past_from}
@@ -38,12 +40,13 @@ showings_bound : (p : Plan) (st : Standing) (k past : ℕ) (e : Entry) (s : Side
 showings_bound p st k past e s true is h = rw is (tagged_bound past k (showers p st (k + 1)) s (omega arith))
 showings_bound p st k past e s false is h = rw is (omega arith)
 
-pub shown_bound : (p : Plan) (st : Standing) (k past : ℕ) (es : List Entry) (s : Side) → past ≤ k
-    → shown_past_from past (shown_from p st k es) s ≤ k + length es
-shown_bound p st k past [] s h = omega arith
-shown_bound p st k past (e ∷ es) s h =
-    rw (shown_past_append past (showings_of p (after st e) k e) (shown_from p (after st e) (k + 1) es) s, shift k (length es))
-    (shown_bound p (after st e) (k + 1) (shown_past_from past (showings_of p (after st e) k e) s) es s (showings_bound p (after st e) k past e s (is_output e) refl h))
+pub shown_bound : (p : Setup) (g : Ledger) (past : ℕ) (es : List Entry) (s : Side) → past ≤ g.moment
+    → shown_past_from past (shown_from p g es) s ≤ g.moment + length es
+shown_bound p g past [] s h = omega arith
+shown_bound p g past (e ∷ es) s h =
+    let st = (after p g e).standing in
+    rw (shown_past_append past (showings_of p.plan st g.moment e) (shown_from p (after p g e) es) s, shift g.moment (length es))
+    (shown_bound p (after p g e) (shown_past_from past (showings_of p.plan st g.moment e) s) es s (showings_bound p.plan st g.moment past e s (is_output e) refl h))
 
 -- at most two sides show an output
 showers_few : (m : Side) (k : ℕ) (cut late other : Bool) → length (tagged k (showers_by m cut late other)) ≤ 2
@@ -58,10 +61,11 @@ showings_few p st k e true is =
     rw is (showers_few st.master k (is_cut p st.master (k + 1)) (is_late p st.master (k + 1)) (runs st (other_side st.master) && not (is_cut p (other_side st.master) (k + 1))))
 showings_few p st k e false is = rw is (omega arith)
 
-pub shown_few : (p : Plan) (st : Standing) (k : ℕ) (es : List Entry) → length (shown_from p st k es) ≤ 2 * length es
-shown_few p st k [] = omega arith
-shown_few p st k (e ∷ es) =
-    omega (arith, length-append (showings_of p (after st e) k e) (shown_from p (after st e) (k + 1) es), showings_few p (after st e) k e (is_output e) refl, shown_few p (after st e) (k + 1) es)
+pub shown_few : (p : Setup) (g : Ledger) (es : List Entry) → length (shown_from p g es) ≤ 2 * length es
+shown_few p g [] = omega arith
+shown_few p g (e ∷ es) =
+    let st = (after p g e).standing in
+    omega (arith, length-append (showings_of p.plan st g.moment e) (shown_from p (after p g e) es), showings_few p.plan st g.moment e (is_output e) refl, shown_few p (after p g e) es)
 
 -- no line is dated at the end
 soundness_end : (before : Soundness) (events : List Event) (s : Side) (k end : ℕ) → All (λ event. event.moment < end) events → end ≤ k + 1

@@ -10,9 +10,10 @@ use Rattle.subsystem.specs.Part.{Part}
 use Rattle.pair_core.specs.declared.turns.Act.{Act}
 use Rattle.pair_core.specs.declared.turns.Act.TheVariants.{Over, Dead, Take, Show, Mark, Unmarked, Behind, Append}
 use Rattle.pair_core.specs.declared.own.Own.{Own}
-use Rattle.pair_core.specs.declared.own.Parts.{Parts}
-use Rattle.pair_core.specs.Sides.{other_side}
-use Rattle.pair_core.specs.World.{Setup, World, part, part_in, with_part, next_entry, appended, acted, step, choose}
+use Rattle.pair_core.specs.declared.sides.Sides.{Sides}
+use Rattle.pair_core.specs.Sides.{other_side, of_side, with_side}
+use Rattle.pair_core.specs.Setup.{Setup}
+use Rattle.pair_core.specs.World.{World, part, next_entry, appended, acted, step, choose}
 use Rattle.pair_core.specs.Places.{StandsAfter, IsAt}
 use Rattle.pair_core.specs.Good.{Good}
 
@@ -33,7 +34,7 @@ acted_grows p w s Unmarked = same w.log.entries
 acted_grows p w s Behind = same w.log.entries
 acted_grows p w s Append = appended_grows w s (next_entry p w.log)
 
-other_put : (parts : Parts) (s : Side) (own : Own) → part_in (with_part parts s own) (other_side s) ≡ part_in parts (other_side s)
+other_put : (parts : Sides Own) (s : Side) (own : Own) → of_side (with_side parts s own) (other_side s) ≡ of_side parts (other_side s)
 other_put parts A own = refl
 other_put parts B own = refl
 

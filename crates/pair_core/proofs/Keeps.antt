@@ -8,63 +8,65 @@ use Rattle.s7_events.specs.declared.entry.Side.TheVariants.{A, B}
 use Rattle.s7_events.specs.declared.entry.StopCode.{StopCode}
 use Rattle.s7_events.specs.declared.entry.Entry.{Entry}
 use Rattle.plant_script.specs.Plan.{IsPlan}
-use Rattle.pair_core.specs.Monitor.{watch_of}
 use Rattle.pair_core.specs.declared.endings.Ended.{Ended}
 use Rattle.pair_core.specs.declared.turns.Act.{Act}
 use Rattle.pair_core.specs.declared.turns.Act.TheVariants.{Over, Dead, Take, Show, Mark, Unmarked, Behind, Append}
 use Rattle.pair_core.specs.declared.own.Own.{Own}
-use Rattle.pair_core.specs.declared.own.Parts.{Parts}
-use Rattle.pair_core.specs.Sides.{same_side, runs, first_standing, after}
+use Rattle.pair_core.specs.declared.sides.Sides.{Sides}
+use Rattle.pair_core.specs.Setup.{Setup}
+use Rattle.pair_core.specs.Ledger.{Ledger, first_ledger, ledger}
+use Rattle.pair_core.specs.Sides.{same_side, runs, after_answer, of_side, with_side}
 use Rattle.pair_core.specs.Cuts.{is_cut, is_late}
 use Rattle.pair_core.specs.Stops.{stop_of}
 use Rattle.pair_core.specs.Showings.{tagged, shown_of}
 use Rattle.pair_core.specs.Losses.{lost_at, loses_by}
-use Rattle.pair_core.specs.World.{Setup, Log, World, part, part_in, with_part, taken_one, standing_in, is_open, is_pending, has_shown, is_down, end_by, ended, is_behind, unless_over, must_wait, waits_for_other, when_taken, choose, next_entry, with_entry, with_shown, with_marked, appended, acted}
+use Rattle.pair_core.specs.World.{Log, World, part, taken_one, standing_in, is_open, is_pending, has_shown, is_down, end_by, ended, is_behind, unless_over, must_wait, waits_for_other, when_taken, choose, next_entry, with_entry, with_shown, with_marked, appended, acted}
 use Rattle.pair_core.specs.Kept.{CanAct}
 use Rattle.pair_core.specs.Good.{Pending, GoodLog, IsRunningSide, IsSameSide, LastIsTaken, Good, shown_by}
-use Rattle.pair_core.proofs.Snoc.{standing_snoc}
+use Rattle.pair_core.proofs.Snoc.{moment_is, standing_snoc}
 use Rattle.pair_core.proofs.Bounds.{shown_few}
-use Rattle.pair_core.proofs.Losses.{pick, lost_snoc, lost_out, lost_was_cut, lawful_stays, in_after, ran_first}
+use Rattle.pair_core.proofs.Losses.{pick, lost_snoc, lost_out, in_after, ran_first}
+use Rattle.pair_core.proofs.Answers.{kind_stays, lost_was_cut}
 use Rattle.pair_core.proofs.Logs.{same_is, other_is, has_is, down_is, down_by, good_shown, good_marked, shown_up, marked_up, pending_shows, last_place}
-use Rattle.pair_core.proofs.Added.{IsNext, is_next, fresh_side, good_added}
+use Rattle.pair_core.proofs.Added.{IsNext, is_next, next_kind, fresh_side, good_added}
 
 -- what is kept of the sides --------------------------------------------------
 
 -- what is kept of a side once it changed for one of them
-pub put_get : (parts : Parts) (s t : Side) (own : Own) → part_in (with_part parts s own) t ≡ (if same_side t s then own else part_in parts t)
+pub put_get : (parts : Sides Own) (s t : Side) (own : Own) → of_side (with_side parts s own) t ≡ (if same_side t s then own else of_side parts t)
 put_get parts A A own = refl
 put_get parts A B own = refl
 put_get parts B A own = refl
 put_get parts B B own = refl
 
-abbrev pub AllSides : Setup → Log → Parts → Type 0
-AllSides p l parts = (t : Side) → IsSameSide p l t (part_in parts t)
+abbrev pub AllSides : Setup → Log → Sides Own → Type 0
+AllSides p l parts = (t : Side) → IsSameSide p l t (of_side parts t)
 
-sides_put : (p : Setup) (l : Log) (parts : Parts) (s : Side) (own : Own) → ((t : Side) → IsSameSide p l t (if same_side t s then own else part_in parts t)) → AllSides p l (with_part parts s own)
+sides_put : (p : Setup) (l : Log) (parts : Sides Own) (s : Side) (own : Own) → ((t : Side) → IsSameSide p l t (if same_side t s then own else of_side parts t)) → AllSides p l (with_side parts s own)
 sides_put p l parts s own each t = subst (IsSameSide p l t) (sym (put_get parts s t own)) (each t)
 
-one_changed : (p : Setup) (l : Log) (parts : Parts) (s t : Side) (own : Own) (same : Bool) → same_side t s ≡ same → AllSides p l parts → IsSameSide p l s own
-    → IsSameSide p l t (if same then own else part_in parts t)
+one_changed : (p : Setup) (l : Log) (parts : Sides Own) (s t : Side) (own : Own) (same : Bool) → same_side t s ≡ same → AllSides p l parts → IsSameSide p l s own
+    → IsSameSide p l t (if same then own else of_side parts t)
 one_changed p l parts s t own true is all new = subst (λ v. IsSameSide p l v own) (sym (same_is t s is)) new
 one_changed p l parts s t own false is all new = all t
 
-own_put : (parts : Parts) (s : Side) (own : Own) → part_in (with_part parts s own) s ≡ own
+own_put : (parts : Sides Own) (s : Side) (own : Own) → of_side (with_side parts s own) s ≡ own
 own_put parts A own = refl
 own_put parts B own = refl
 
 -- one side changed
-side_changed : (p : Setup) (l : Log) (parts : Parts) (s : Side) (own : Own) → AllSides p l parts → IsSameSide p l s own → AllSides p l (with_part parts s own)
+side_changed : (p : Setup) (l : Log) (parts : Sides Own) (s : Side) (own : Own) → AllSides p l parts → IsSameSide p l s own → AllSides p l (with_side parts s own)
 side_changed p l parts s own all new = sides_put p l parts s own (λ t. one_changed p l parts s t own (same_side t s) refl all new)
 
 -- a change of a side that leaves its place
-same_place : (parts : Parts) (s t : Side) (own : Own) → own.place ≡ (part_in parts s).place → (part_in (with_part parts s own) t).place ≡ (part_in parts t).place
+same_place : (parts : Sides Own) (s t : Side) (own : Own) → own.place ≡ (of_side parts s).place → (of_side (with_side parts s own) t).place ≡ (of_side parts t).place
 same_place parts A A own h = h
 same_place parts A B own h = refl
 same_place parts B A own h = refl
 same_place parts B B own h = h
 
 -- and so the last entry is taken by whom it was
-place_kept : (p : Setup) (w : World) (s : Side) (own : Own) → own.place ≡ (part w s).place → LastIsTaken p w → LastIsTaken p (record w { parts = with_part w.parts s own })
+place_kept : (p : Setup) (w : World) (s : Side) (own : Own) → own.place ≡ (part w s).place → LastIsTaken p w → LastIsTaken p (record w { parts = with_side w.parts s own })
 place_kept p w s own same taken none = taken (λ t run. ap (λ k. k + 1) (sym (same_place w.parts s t own same)) ∙ none t run)
 
 -- a side that runs and has taken all entries
@@ -118,11 +120,11 @@ keeps_dead p w s good out =
 
 -- a side that runs was not lost
 runs_not_lost : (p : Setup) (l : Log) (s : Side) → GoodLog p l → runs (standing_in p l) s ≡ true → (j : ℕ) → lost_at l.entries s ≡ Some j → ⊥
-runs_not_lost p l s good run j h = (let out = lost_out p.plan s (first_standing p.solo) None None 0 l.entries good.same.lawful j h in cc)
+runs_not_lost p l s good run j h = (let out = lost_out p s (first_ledger p) 0 l.entries good.same.lawful j h in cc)
 
 -- a side that runs began by a load
 runs_loaded : (p : Setup) (w : World) (s : Side) → Fair p w → runs (standing_in p w.log) s ≡ true → (part w s).loaded ≡ true
-runs_loaded p w s good run = (good.sides s).loaded ∙ ran_first p.plan s (first_standing p.solo) None None 0 w.log.entries good.log.same.lawful run
+runs_loaded p w s good run = (good.sides s).loaded ∙ ran_first p s w.log.entries good.log.same.lawful run
 
 keeps_take : (p : Setup) (w : World) (s : Side) → Fair p w → runs (standing_in p w.log) s ≡ true → is_down p w.log s ≡ false → (part w s).place < length w.log.entries → Keeps p w s Take
 keeps_take p w s good run up less =
@@ -154,11 +156,11 @@ few_shown : (p : Setup) (l : Log) (s : Side) → GoodLog p l → Pending p l →
 few_shown p l s good h has =
     let sides = shown_by (standing_in p l).master h.by_master h.by_other in
     let one : length sides ≤ 1 = few_by (standing_in p l).master s h.by_master h.by_other (sym (has_is p l h s) ∙ has) in
-    let base : length (shown_of p.plan p.solo h.front) ≤ 2 * length h.front = shown_few p.plan (first_standing p.solo) 0 h.front in
-    let all : length l.shown ≡ length (shown_of p.plan p.solo h.front) + length sides = ap length h.shown ∙ (length-append (shown_of p.plan p.solo h.front) (tagged (length h.front) sides) ∙ ap (λ n. length (shown_of p.plan p.solo h.front) + n) (length-map sides (λ x. (length h.front, x)))) in
+    let base : length (shown_of p h.front) ≤ 2 * length h.front = shown_few p (first_ledger p) h.front in
+    let all : length l.shown ≡ length (shown_of p h.front) + length sides = ap length h.shown ∙ (length-append (shown_of p h.front) (tagged (length h.front) sides) ∙ ap (λ n. length (shown_of p h.front) + n) (length-map sides (λ x. (length h.front, x)))) in
     omega (arith, one, base, all, last_place p l h, good.same.within)
 
-sides_shown : (p : Setup) (l : Log) (s : Side) (parts : Parts) → 0 < length l.entries → AllSides p l parts → AllSides p (with_shown l s) parts
+sides_shown : (p : Setup) (l : Log) (s : Side) (parts : Sides Own) → 0 < length l.entries → AllSides p l parts → AllSides p (with_shown l s) parts
 sides_shown p l s parts some all t =
     let h = all t in record {
       few = h.few;
@@ -167,7 +169,7 @@ sides_shown p l s parts some all t =
       running = λ run. (let r = h.running run in record { near = r.near; alive = λ up. r.alive (shown_up p l s t some up) });
     }
 
-sides_marked : (p : Setup) (l : Log) (parts : Parts) → AllSides p l parts → AllSides p (with_marked l) parts
+sides_marked : (p : Setup) (l : Log) (parts : Sides Own) → AllSides p l parts → AllSides p (with_marked l) parts
 sides_marked p l parts all t =
     let h = all t in record {
       few = h.few;
@@ -260,9 +262,13 @@ module _ (p : Setup) (w : World) (s : Side) (e : Entry) (good : Fair p w) (next 
 
   -- who runs after the entry ran before it, and was not cut at it
   before : (t : Side) → runs (standing_in p (with_entry w.log e)) t ≡ true → (is_cut p.plan t (length w.log.entries) ≡ false) × (runs (standing_in p w.log) t ≡ true)
-  before t r =
-      fresh_side p.plan (standing_in p w.log) (watch_of w.log.entries) (length w.log.entries) e.request.ask e.answer s t next.answer good.log.same.master run uncut
-      (rw (standing_snoc (first_standing p.solo) w.log.entries e) at r)
+  before t r = fresh_side p w.log e s t next good.log.same.master run uncut r
+
+  -- who is lost by it runs and is cut
+  loses : (t : Side) → loses_by e.answer t ≡ true → (is_cut p.plan t (length w.log.entries) ≡ true) × (runs (standing_in p w.log) t ≡ true)
+  loses t now =
+      let h = lost_was_cut p (ledger p w.log.entries) e.answer t (next_kind p w.log e next) now in
+      (subst (λ k. is_cut p.plan t k ≡ true) (moment_is p w.log.entries) h.0, h.1)
 
   -- the visitor
   own_running : IsRunningSide p (with_entry w.log e) s (taken_one (part w s))
@@ -288,7 +294,7 @@ module _ (p : Setup) (w : World) (s : Side) (e : Entry) (good : Fair p w) (next 
       → (lost_at w.log.entries t ≡ Some j) ⊎ ((length w.log.entries ≡ j) × (is_cut p.plan t (length w.log.entries) ≡ true) × (runs (standing_in p w.log) t ≡ true))
   lost_now t j (Some i) was b now h = inl (was ∙ h)
   lost_now t j None was true now h =
-      let cut = lost_was_cut p.plan (standing_in p w.log) (watch_of w.log.entries) (length w.log.entries) e.request.ask e.answer t next.answer now in
+      let cut = loses t now in
       let at_j : 0 + length w.log.entries ≡ j = cc in
       inr (omega arith, cut.0, cut.1)
   lost_now t j None was false now h = absurd cc
@@ -323,20 +329,19 @@ module _ (p : Setup) (w : World) (s : Side) (e : Entry) (good : Fair p w) (next 
   each_side t true is = subst (λ v. IsSameSide p (with_entry w.log e) v (taken_one (part w s))) (sym (same_is t s is)) own_side
   each_side t false is = other_side_is t is
 
-  pub sides_added : AllSides p (with_entry w.log e) (with_part w.parts s (taken_one (part w s)))
+  pub sides_added : AllSides p (with_entry w.log e) (with_side w.parts s (taken_one (part w s)))
   sides_added = sides_put p (with_entry w.log e) w.parts s (taken_one (part w s)) (λ t. each_side t (same_side t s) refl)
 
   -- the visitor is not lost by the entry
-  stays : (b : Bool) → loses_by e.answer s ≡ b → runs (after (standing_in p w.log) e) s ≡ true
-  stays true is = absurd (let cut = lost_was_cut p.plan (standing_in p w.log) (watch_of w.log.entries) (length w.log.entries) e.request.ask e.answer s next.answer is in let sound = uncut in cc)
-  stays false is =
-      in_after (standing_in p w.log) e.answer s is (lawful_stays p.plan (standing_in p w.log) (watch_of w.log.entries) (length w.log.entries) e.request.ask e.answer next.answer) ∙ run
+  stays : (b : Bool) → loses_by e.answer s ≡ b → runs (after_answer (standing_in p w.log) e.answer) s ≡ true
+  stays true is = absurd (let cut = loses s is in let sound = uncut in cc)
+  stays false is = in_after (standing_in p w.log) e.answer s is (kind_stays p (ledger p w.log.entries) e.answer (next_kind p w.log e next)) ∙ run
 
   -- and it has taken it
-  pub taken_added : LastIsTaken p (record { log = with_entry w.log e; parts = with_part w.parts s (taken_one (part w s)) })
+  pub taken_added : LastIsTaken p (record { log = with_entry w.log e; parts = with_side w.parts s (taken_one (part w s)) })
   taken_added =
-      let still : runs (standing_in p (with_entry w.log e)) s ≡ true = rw (standing_snoc (first_standing p.solo) w.log.entries e) (stays (loses_by e.answer s) refl) in
-      someone_took p (record { log = with_entry w.log e; parts = with_part w.parts s (taken_one (part w s)) }) s still
+      let still : runs (standing_in p (with_entry w.log e)) s ≡ true = rw (standing_snoc p w.log.entries e) (stays (loses_by e.answer s) refl) in
+      someone_took p (record { log = with_entry w.log e; parts = with_side w.parts s (taken_one (part w s)) }) s still
       (omega (arith, here, longer, ap (λ (own : Own). own.place) (own_put w.parts s (taken_one (part w s)))))
 
   pub log_added : GoodLog p (with_entry w.log e)

@@ -13,12 +13,14 @@ use Rattle.s7_events.specs.declared.entry.Answer.{Answer}
 use Rattle.s7_events.specs.declared.entry.Answer.TheVariants.{Done, CpuStop}
 use Rattle.s7_events.specs.declared.entry.Entry.{Entry}
 use Rattle.plant_script.specs.Plan.{IsPlan}
-use Rattle.pair_core.specs.Sides.{same_side, other_side, runs, first_standing, standing_from}
+use Rattle.pair_core.specs.Setup.{Setup}
+use Rattle.pair_core.specs.Ledger.{first_ledger, standing}
+use Rattle.pair_core.specs.Sides.{same_side, other_side, runs}
 use Rattle.pair_core.specs.Cuts.{is_cut, is_late}
 use Rattle.pair_core.specs.Stops.{stop_by, stop_of}
 use Rattle.pair_core.specs.Showings.{is_output_of, is_output, showers, showers_by, tagged, shown_from, shown_of}
 use Rattle.pair_core.specs.Endings.{ends_by_output}
-use Rattle.pair_core.specs.World.{Setup, Log, standing_in, is_open, is_pending, has_shown, is_down, must_wait, shown_past, shown_past_from, with_shown, with_marked}
+use Rattle.pair_core.specs.World.{Log, standing_in, is_open, is_pending, has_shown, is_down, must_wait, shown_past, shown_past_from, with_shown, with_marked}
 use Rattle.pair_core.specs.Good.{marked_from, shown_by, may_have, is_available, Settled, Pending, GoodLog}
 use Rattle.pair_core.proofs.Lasts.{last_of, stop_snoc, output_snoc}
 use Rattle.pair_core.proofs.Snoc.{marked_snoc, shown_snoc, standing_snoc, shown_past_snoc}
@@ -124,10 +126,10 @@ has_cases past e B B false false h = eq_past past e h
 pub has_is : (p : Setup) (l : Log) (h : Pending p l) (s : Side) → has_shown l s ≡ (if same_side s (standing_in p l).master then h.by_master else h.by_other)
 unfolding has_shown
 has_is p l h s =
-    let few : shown_past_from 0 (shown_from p.plan (first_standing p.solo) 0 h.front) s ≤ 0 + length h.front = shown_bound p.plan (first_standing p.solo) 0 0 h.front s (omega arith) in
+    let few : shown_past_from 0 (shown_from p (first_ledger p) h.front) s ≤ 0 + length h.front = shown_bound p (first_ledger p) 0 h.front s (omega arith) in
     let len : length l.entries ≡ length h.front + 1 = ap length h.is ∙ length-append h.front (h.last ∷ []) in
-    rw (h.shown, len, shown_past_append 0 (shown_of p.plan p.solo h.front) (tagged (length h.front) (shown_by (standing_in p l).master h.by_master h.by_other)) s)
-    (has_cases (shown_past (shown_of p.plan p.solo h.front) s) (length h.front) (standing_in p l).master s h.by_master h.by_other (omega (arith, few)))
+    rw (h.shown, len, shown_past_append 0 (shown_of p h.front) (tagged (length h.front) (shown_by (standing_in p l).master h.by_master h.by_other)) s)
+    (has_cases (shown_past (shown_of p h.front) s) (length h.front) (standing_in p l).master s h.by_master h.by_other (omega (arith, few)))
 
 -- what a master that is not cut, and has not shown, may do
 show_m : (early cut late avail hm ho : Bool) → may_have cut late avail hm ho ≡ true → hm ≡ false → down_by early cut late true true hm ≡ false → (early ≡ false → cut ≡ false)
@@ -244,7 +246,7 @@ show_by_master p l fine good h down has =
       marked = h.marked;
       by_master = true;
       by_other = h.by_other;
-      shown = rw (h.shown, last_index p l h) (add_first (shown_of p.plan p.solo h.front) (length h.front) m h.by_master h.by_other none may.1);
+      shown = rw (h.shown, last_index p l h) (add_first (shown_of p h.front) (length h.front) m h.by_master h.by_other none may.1);
       allowed = may.0;
     }
 
@@ -275,7 +277,7 @@ show_by_other p l good h run down up has =
       marked = h.marked;
       by_master = h.by_master;
       by_other = true;
-      shown = rw (h.shown, last_index p l h) (add_other (shown_of p.plan p.solo h.front) (length h.front) m h.by_master h.by_other none);
+      shown = rw (h.shown, last_index p l h) (add_other (shown_of p h.front) (length h.front) m h.by_master h.by_other none);
       allowed = show_o (is_open p l) (is_cut p.plan m (length l.entries)) (is_late p.plan m (length l.entries)) (is_available p l) h.by_master h.by_other h.allowed avail mdown;
     }
 
@@ -294,17 +296,16 @@ shown_turn p l s false is fine good h run up has turn =
     (show_by_other p l good h (subst (λ v. runs (standing_in p l) v ≡ true) e run) (must_be_down (is_down p l (standing_in p l).master) turn) (subst (λ v. is_down p l v ≡ false) e up) (subst (λ v. has_shown l v ≡ false) e has))
 
 pub whole_shown : (p : Setup) (front : List Entry) (last : Entry) (sides : List Side) → is_output last ≡ true
-    → sides ≡ showers p.plan (standing_from (first_standing p.solo) (front ++ last ∷ [])) (length (front ++ last ∷ []))
-    → shown_of p.plan p.solo front ++ tagged (length front) sides ≡ shown_of p.plan p.solo (front ++ last ∷ [])
+    → sides ≡ showers p.plan (standing p (front ++ last ∷ [])) (length (front ++ last ∷ []))
+    → shown_of p front ++ tagged (length front) sides ≡ shown_of p (front ++ last ∷ [])
 whole_shown p front last sides out whole =
-    let st = first_standing p.solo in
     let len : length (front ++ last ∷ []) ≡ 0 + length front + 1 = omega (arith, length-append front (last ∷ [])) in
     let zero : 0 + length front ≡ length front = omega arith in
-    rw (shown_snoc p.plan st 0 front last, out, whole, len, standing_snoc st front last, zero)
+    rw (shown_snoc p (first_ledger p) front last, out, whole, len, standing_snoc p front last, zero)
 
 pub marked_settled : (p : Setup) (l : Log) (h : Pending p l) → shown_by (standing_in p l).master h.by_master h.by_other ≡ showers p.plan (standing_in p l) (length l.entries) → Settled p (with_marked l)
 marked_settled p l h whole = record {
-  shown = h.shown ∙ (whole_shown p h.front h.last (shown_by (standing_in p l).master h.by_master h.by_other) h.output (whole ∙ ap (λ es. showers p.plan (standing_from (first_standing p.solo) es) (length es)) h.is) ∙ sym (ap (shown_of p.plan p.solo) h.is));
+  shown = h.shown ∙ (whole_shown p h.front h.last (shown_by (standing_in p l).master h.by_master h.by_other) h.output (whole ∙ ap (λ es. showers p.plan (standing p es) (length es)) h.is) ∙ sym (ap (shown_of p) h.is));
   marked = rw (h.is, marked_snoc 0 0 h.front h.last, h.output) (omega (arith, length-append h.front (h.last ∷ [])));
 }
 

@@ -6,11 +6,12 @@ use Rattle.s7_events.specs.declared.entry.Entry.{Entry}
 use Rattle.s7_events.specs.declared.entry.Request.{Request}
 use Rattle.s7_events.specs.declared.entry.Answer.{Answer}
 use Rattle.mc_machine.specs.Meaning.{std, next_of}
-use Rattle.pair_core.specs.Monitor.{watch_of}
+use Rattle.pair_core.specs.Setup.{Setup}
+use Rattle.pair_core.specs.Ledger.{ledger}
+use Rattle.pair_core.specs.Lawful.{MayAnswer}
 use Rattle.pair_core.specs.Stops.{stop_of}
 use Rattle.pair_core.specs.Played.{answers_of}
-use Rattle.pair_core.specs.Turns.{answer_at}
-use Rattle.pair_core.specs.World.{Setup, Log, is_open, standing_in, next_entry, entry_for, entry_with}
+use Rattle.pair_core.specs.World.{Log, is_open, next_entry, entry_for, entry_with}
 
 not_some : {X : Type 0} (early : Bool) (o : Option X) → (early && not (is_some o)) ≡ true → o ≡ None
 not_some early None h = refl
@@ -45,7 +46,7 @@ going_at p l k h here = ap (λ n. stop_of (take n l.entries)) here ∙ (ap stop_
 
 -- the entry that comes next
 pub next_is : (p : Setup) (l : Log) (request : Request) (answer : Answer) → next_of (std p.program (answers_of l.entries)) ≡ Some request
-    → answer_at p.plan (standing_in p l) (watch_of l.entries) (length l.entries) request.ask ≡ Some answer → next_entry p l ≡ Some (record { request = request; answer = answer })
+    → MayAnswer p (ledger p l.entries) request.ask answer → next_entry p l ≡ Some (record { request = request; answer = answer })
 next_is p l request answer asks is = ap (entry_for p l) asks ∙ ap (entry_with request) is
 
 pub take_all : (es : List Entry) (k : ℕ) → k ≡ length es → take k es ≡ es

@@ -8,10 +8,11 @@ use Rattle.pair_core.specs.declared.endings.Ended.{Ended}
 use Rattle.pair_core.specs.declared.turns.Act.{Act}
 use Rattle.pair_core.specs.declared.turns.Act.TheVariants.{Over, Dead, Take, Show, Mark, Unmarked, Behind, Append}
 use Rattle.pair_core.specs.declared.own.Own.{Own}
-use Rattle.pair_core.specs.declared.own.Parts.{Parts}
-use Rattle.pair_core.specs.Sides.{runs}
+use Rattle.pair_core.specs.declared.sides.Sides.{Sides}
+use Rattle.pair_core.specs.Sides.{runs, of_side, with_side}
 use Rattle.pair_core.specs.Turns.{is_over}
-use Rattle.pair_core.specs.World.{Setup, World, part, part_in, with_part, standing_in, is_down, is_pending, has_shown, must_wait, waits_for_other, ended, unless_over, choose, next_entry, appended, acted, step}
+use Rattle.pair_core.specs.Setup.{Setup}
+use Rattle.pair_core.specs.World.{World, part, standing_in, is_down, is_pending, has_shown, must_wait, waits_for_other, ended, unless_over, choose, next_entry, appended, acted, step}
 use Rattle.pair_core.specs.Good.{OverIsEnded}
 
 abbrev pub NotOver : Act → Type 0
@@ -58,7 +59,7 @@ chosen p w s None is =
 chosen p w s (Some ending) is = choose_is p w s ∙ ap (λ o. unless_over o (inner_of p w s)) is
 
 -- a change of a side that leaves whether it was answered Over
-same_put : (parts : Parts) (s t : Side) (own : Own) → own.over ≡ (part_in parts s).over → (part_in (with_part parts s own) t).over ≡ (part_in parts t).over
+same_put : (parts : Sides Own) (s t : Side) (own : Own) → own.over ≡ (of_side parts s).over → (of_side (with_side parts s own) t).over ≡ (of_side parts t).over
 same_put parts A A own h = h
 same_put parts A B own h = refl
 same_put parts B A own h = refl

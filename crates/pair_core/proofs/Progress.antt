@@ -12,10 +12,12 @@ use Rattle.pair_core.specs.declared.turns.Turn.TheVariants as turns
 use Rattle.pair_core.specs.declared.turns.Act.{Act}
 use Rattle.pair_core.specs.declared.turns.Act.TheVariants.{Over, Show, Mark, Append}
 use Rattle.pair_core.specs.declared.standing.Standing.{Standing}
+use Rattle.pair_core.specs.Setup.{Setup}
+use Rattle.pair_core.specs.Ledger.{first_ledger}
 use Rattle.pair_core.specs.Sides.{same_side, runs, first_standing}
 use Rattle.pair_core.specs.Endings.{ends_by_output}
 use Rattle.pair_core.specs.Turns.{is_over}
-use Rattle.pair_core.specs.World.{Setup, Log, World, part, standing_in, is_open, is_pending, has_shown, is_down, must_wait, waits_for_other, ended, unless_over, choose, next_entry, with_shown, with_marked, appended, acted, step, first_world}
+use Rattle.pair_core.specs.World.{Log, World, part, standing_in, is_open, is_pending, has_shown, is_down, must_wait, waits_for_other, ended, unless_over, choose, next_entry, with_shown, with_marked, appended, acted, step, first_world}
 use Rattle.pair_core.specs.Kept.{CanAct}
 use Rattle.pair_core.specs.Good.{Good}
 use Rattle.pair_core.specs.Progress.{done_with_last, done_of, IsAlone}
@@ -42,7 +44,7 @@ sole : (p : Setup) (w : World) → Good p w → p.solo ≡ true → IsSole (stan
 sole p w good solo =
     let first : runs (first_standing p.solo) B ≡ false = ap not solo in
     sole_by (standing_in p w.log) (standing_in p w.log).master refl good.log.same.master
-    (stays_out p.plan B (first_standing p.solo) None None 0 w.log.entries good.log.same.lawful first)
+    (stays_out p B (first_ledger p) w.log.entries good.log.same.lawful first)
 
 -- it is not cut while the run goes on ------------------------------------------
 

@@ -12,13 +12,15 @@ use Rattle.s7_events.specs.declared.entry.StopCode.{StopCode}
 use Rattle.pair_core.specs.declared.endings.Ended.{Ended}
 use Rattle.pair_core.specs.declared.endings.Ended.TheVariants.{End, Stop, NoneLeft, Spent, NotPlayed}
 use Rattle.pair_core.specs.declared.standing.Standing.{Standing}
-use Rattle.pair_core.specs.Sides.{same_side, other_side, runs, after, first_standing, standing_from}
+use Rattle.pair_core.specs.Setup.{Setup}
+use Rattle.pair_core.specs.Ledger.{Ledger, first_ledger, after, ledger_from, standing}
+use Rattle.pair_core.specs.Sides.{same_side, other_side, runs, after_answer}
 use Rattle.pair_core.specs.Cuts.{is_cut, is_late}
 use Rattle.pair_core.specs.Stops.{stop_of}
 use Rattle.pair_core.specs.Showings.{is_output, showers, showers_by, showings_of, tagged, shown_of, shown_from}
 use Rattle.pair_core.specs.Endings.{ends_by_output, has_shown_from, has_shown_last, is_gone, stays_in, IsEnded, IsShown}
 use Rattle.pair_core.specs.Played.{IsRun}
-use Rattle.pair_core.specs.World.{Setup, Log, World, standing_in, is_open, is_pending, has_shown, is_down, is_left, is_behind, end_by, ended, shown_past_from}
+use Rattle.pair_core.specs.World.{Log, World, standing_in, is_open, is_pending, has_shown, is_down, is_left, is_behind, end_by, ended, shown_past_from}
 use Rattle.pair_core.specs.Finished.{ended_by}
 use Rattle.pair_core.specs.Good.{Settled, Pending, IsSameShown, GoodLog, Good, shown_by, may_have, is_available}
 use Rattle.pair_core.proofs.Lasts.{last_of, output_snoc}
@@ -110,51 +112,51 @@ take_front front last =
     rw n (take-append_seam front (last ∷ []))
 
 Begins : Setup → List Entry → List (ℕ × Side) → Type 0
-Begins p es shown = IsPrefix (shown_of p.plan p.solo (take (length es - 1) es)) shown × IsPrefix shown (shown_of p.plan p.solo es)
+Begins p es shown = IsPrefix (shown_of p (take (length es - 1) es)) shown × IsPrefix shown (shown_of p es)
 
-snoc_begins : (p : Setup) (front : List Entry) (last : Entry) → IsPrefix (shown_of p.plan p.solo (take (length (front ++ last ∷ []) - 1) (front ++ last ∷ []))) (shown_of p.plan p.solo (front ++ last ∷ []))
+snoc_begins : (p : Setup) (front : List Entry) (last : Entry) → IsPrefix (shown_of p (take (length (front ++ last ∷ []) - 1) (front ++ last ∷ []))) (shown_of p (front ++ last ∷ []))
 snoc_begins p front last = (
-  showings_of p.plan (after (standing_from (first_standing p.solo) front) last) (0 + length front) last,
-  rw (take_front front last) (sym (shown_snoc p.plan (first_standing p.solo) 0 front last)),
+  showings_of p.plan (after_answer (standing p front) last.answer) (0 + length front) last,
+  rw (take_front front last) (sym (shown_snoc p (first_ledger p) front last)),
 )
 
-whole_begins : (p : Setup) (es : List Entry) → (es ≡ []) ⊎ ((front : List Entry) × (last : Entry) × (es ≡ front ++ last ∷ [])) → IsPrefix (shown_of p.plan p.solo (take (length es - 1) es)) (shown_of p.plan p.solo es)
+whole_begins : (p : Setup) (es : List Entry) → (es ≡ []) ⊎ ((front : List Entry) × (last : Entry) × (es ≡ front ++ last ∷ [])) → IsPrefix (shown_of p (take (length es - 1) es)) (shown_of p es)
 whole_begins p es (inl e) = rw e ([], refl)
 whole_begins p es (inr r) = rw r.2 (snoc_begins p r.0 r.1)
 
 -- the last list, whole, makes all showings of the record
-whole_list : (p : Setup) (l : Log) (h : Pending p l) → shown_of p.plan p.solo h.front ++ tagged (length h.front) (showers p.plan (standing_in p l) (length l.entries)) ≡ shown_of p.plan p.solo l.entries
+whole_list : (p : Setup) (l : Log) (h : Pending p l) → shown_of p h.front ++ tagged (length h.front) (showers p.plan (standing_in p l) (length l.entries)) ≡ shown_of p l.entries
 whole_list p l h =
-    whole_shown p h.front h.last (showers p.plan (standing_in p l) (length l.entries)) h.output (ap (λ es. showers p.plan (standing_from (first_standing p.solo) es) (length es)) h.is)
-    ∙ sym (ap (shown_of p.plan p.solo) h.is)
+    whole_shown p h.front h.last (showers p.plan (standing_in p l) (length l.entries)) h.output (ap (λ es. showers p.plan (standing p es) (length es)) h.is)
+    ∙ sym (ap (shown_of p) h.is)
 
-part_begins : (p : Setup) (l : Log) (h : Pending p l) → IsPrefix (shown_of p.plan p.solo (take (length l.entries - 1) l.entries)) l.shown × IsPrefix l.shown (shown_of p.plan p.solo l.entries)
+part_begins : (p : Setup) (l : Log) (h : Pending p l) → IsPrefix (shown_of p (take (length l.entries - 1) l.entries)) l.shown × IsPrefix l.shown (shown_of p l.entries)
 part_begins p l h =
     let front : take (length l.entries - 1) l.entries ≡ h.front = rw h.is (take_front h.front h.last) in
     let m = (standing_in p l).master in
     let r = may_prefix m (is_cut p.plan m (length l.entries)) (is_late p.plan m (length l.entries)) (is_available p l) h.by_master h.by_other h.allowed in (
-      (tagged (length h.front) (shown_by m h.by_master h.by_other), ap (λ es. shown_of p.plan p.solo es ++ tagged (length h.front) (shown_by m h.by_master h.by_other)) front ∙ sym h.shown),
+      (tagged (length h.front) (shown_by m h.by_master h.by_other), ap (λ es. shown_of p es ++ tagged (length h.front) (shown_by m h.by_master h.by_other)) front ∙ sym h.shown),
       (
         tagged (length h.front) r.0,
         ap (λ xs. xs ++ tagged (length h.front) r.0) h.shown
-            ∙ (append_assoc (shown_of p.plan p.solo h.front) (tagged (length h.front) (shown_by m h.by_master h.by_other)) (tagged (length h.front) r.0)
-            ∙ (ap (λ xs. shown_of p.plan p.solo h.front ++ xs) (sym (map-append (λ s. (length h.front, s)) (shown_by m h.by_master h.by_other) r.0) ∙ ap (tagged (length h.front)) r.1)
+            ∙ (append_assoc (shown_of p h.front) (tagged (length h.front) (shown_by m h.by_master h.by_other)) (tagged (length h.front) r.0)
+            ∙ (ap (λ xs. shown_of p h.front ++ xs) (sym (map-append (λ s. (length h.front, s)) (shown_by m h.by_master h.by_other) r.0) ∙ ap (tagged (length h.front)) r.1)
             ∙ whole_list p l h)),
       ),
     )
 
-shown_by_end : (p : Setup) (w : World) (o : Option Ended) → Means p w o → Good p w → IsShown p.plan p.solo w.log.entries (unwrap_or o Spent) w.log.shown
+shown_by_end : (p : Setup) (w : World) (o : Option Ended) → Means p w o → Good p w → IsShown p w.log.entries (unwrap_or o Spent) w.log.shown
 shown_by_end p w (Some End) h good = (let s = settled_shows p w.log good.log.shows h.1 in s.shown)
 shown_by_end p w (Some (Stop code)) h good = elim good.log.shows [ inl s ↦ s.shown | inr q ↦ absurd (let free = pending_goes p w.log q in let stop = h.1 in cc) ]
 shown_by_end p w (Some NoneLeft) h good = elim good.log.shows [ inl s ↦ s.shown | inr q ↦ (let s = marked_settled p w.log q (none_left_whole p w.log good.log q h.0 h.1 h.2) in s.shown) ]
 shown_by_end p w (Some Spent) h good = absurd h
 shown_by_end p w (Some NotPlayed) h good = absurd h
 shown_by_end p w None h good = elim good.log.shows [
-  | inl s ↦ (subst (λ xs. IsPrefix (shown_of p.plan p.solo (take (length w.log.entries - 1) w.log.entries)) xs) (sym s.shown) (whole_begins p w.log.entries (last_of w.log.entries)), ([], append-nil w.log.shown ∙ s.shown))
+  | inl s ↦ (subst (λ xs. IsPrefix (shown_of p (take (length w.log.entries - 1) w.log.entries)) xs) (sym s.shown) (whole_begins p w.log.entries (last_of w.log.entries)), ([], append-nil w.log.shown ∙ s.shown))
   | inr q ↦ part_begins p w.log q
 ]
 
-pub good_shown : (p : Setup) (w : World) → Good p w → IsShown p.plan p.solo w.log.entries (ended_by p w) w.log.shown
+pub good_shown : (p : Setup) (w : World) → Good p w → IsShown p w.log.entries (ended_by p w) w.log.shown
 good_shown p w good = shown_by_end p w (ended p w) (ended_means p w) good
 
 -- who has shown the last output ------------------------------------------------
@@ -187,14 +189,15 @@ showings_not : (p : Setup) (st : Standing) (before : Bool) (a k : ℕ) (e : Entr
 showings_not p st before a k e s true is less = rw is (tagged_not before a k (showers p.plan st (a + 1)) s less)
 showings_not p st before a k e s false is less = rw is
 
-earlier_not : (p : Setup) (st : Standing) (before : Bool) (a k : ℕ) (es : List Entry) (s : Side) → a + length es ≤ k → has_shown_from before (shown_from p.plan st a es) k s ≡ before
-earlier_not p st before a k [] s few = refl
-earlier_not p st before a k (e ∷ es) s few =
-    let less : a < k = omega arith in
-    let more : a + 1 + length es ≤ k = omega arith in
-    last_append before (showings_of p.plan (after st e) a e) (shown_from p.plan (after st e) (a + 1) es) k s
-    ∙ (earlier_not p (after st e) (has_shown_from before (showings_of p.plan (after st e) a e) k s) (a + 1) k es s more
-    ∙ showings_not p (after st e) before a k e s (is_output e) refl less)
+earlier_not : (p : Setup) (g : Ledger) (before : Bool) (k : ℕ) (es : List Entry) (s : Side) → g.moment + length es ≤ k → has_shown_from before (shown_from p g es) k s ≡ before
+earlier_not p g before k [] s few = refl
+earlier_not p g before k (e ∷ es) s few =
+    let next = after p g e in
+    let less : g.moment < k = omega arith in
+    let more : g.moment + 1 + length es ≤ k = omega arith in
+    last_append before (showings_of p.plan next.standing g.moment e) (shown_from p next es) k s
+    ∙ (earlier_not p next (has_shown_from before (showings_of p.plan next.standing g.moment e) k s) k es s more
+    ∙ showings_not p next.standing before g.moment k e s (is_output e) refl less)
 
 last_cases : (k : ℕ) (m s : Side) (hm ho : Bool) → has_shown_from false (tagged k (shown_by m hm ho)) k s ≡ (if same_side s m then hm else ho)
 last_cases k A A true true = rw (eq_same k)
@@ -216,24 +219,24 @@ last_cases k B B false false = refl
 
 -- the two tests whether a side has shown the last output agree
 module _ (p : Setup) (l : Log) (s : Side) (front : List Entry) (last : Entry) (is : l.entries ≡ front ++ last ∷ []) (hm ho : Bool)
-    (shown : l.shown ≡ shown_of p.plan p.solo front ++ tagged (length front) (shown_by (standing_in p l).master hm ho)) where
+    (shown : l.shown ≡ shown_of p front ++ tagged (length front) (shown_by (standing_in p l).master hm ho)) where
   long : length l.entries ≡ length front + 1
   long = ap length is ∙ length-append front (last ∷ [])
 
   by_place : has_shown l s ≡ (if same_side s (standing_in p l).master then hm else ho)
   unfolding has_shown
   by_place =
-      let few : shown_past_from 0 (shown_from p.plan (first_standing p.solo) 0 front) s ≤ 0 + length front = shown_bound p.plan (first_standing p.solo) 0 0 front s (omega arith) in
-      rw (shown, long, shown_past_append 0 (shown_of p.plan p.solo front) (tagged (length front) (shown_by (standing_in p l).master hm ho)) s)
-      (has_cases (shown_past_from 0 (shown_of p.plan p.solo front) s) (length front) (standing_in p l).master s hm ho (omega (arith, few)))
+      let few : shown_past_from 0 (shown_from p (first_ledger p) front) s ≤ 0 + length front = shown_bound p (first_ledger p) 0 front s (omega arith) in
+      rw (shown, long, shown_past_append 0 (shown_of p front) (tagged (length front) (shown_by (standing_in p l).master hm ho)) s)
+      (has_cases (shown_past_from 0 (shown_of p front) s) (length front) (standing_in p l).master s hm ho (omega (arith, few)))
 
   by_list : has_shown_last l.entries l.shown s ≡ (if same_side s (standing_in p l).master then hm else ho)
   by_list =
       let at_last : length l.entries - 1 ≡ length front = omega (arith, long) in
-      let none : has_shown_from false (shown_of p.plan p.solo front) (length front) s ≡ false = earlier_not p (first_standing p.solo) false 0 (length front) front s (omega arith) in
+      let none : has_shown_from false (shown_of p front) (length front) s ≡ false = earlier_not p (first_ledger p) false (length front) front s (omega arith) in
       ap (λ k. has_shown_from false l.shown k s) at_last
       ∙ (ap (λ xs. has_shown_from false xs (length front) s) shown
-      ∙ (last_append false (shown_of p.plan p.solo front) (tagged (length front) (shown_by (standing_in p l).master hm ho)) (length front) s
+      ∙ (last_append false (shown_of p front) (tagged (length front) (shown_by (standing_in p l).master hm ho)) (length front) s
       ∙ (ap (λ b. has_shown_from b (tagged (length front) (shown_by (standing_in p l).master hm ho)) (length front) s) none
       ∙ last_cases (length front) (standing_in p l).master s hm ho)))
 
@@ -242,15 +245,15 @@ module _ (p : Setup) (l : Log) (s : Side) (front : List Entry) (last : Entry) (i
 
 -- the showings of a settled record that ends by an output
 settled_list : (p : Setup) (l : Log) (front : List Entry) (last : Entry) → Settled p l → l.entries ≡ front ++ last ∷ [] → is_output last ≡ true
-    → l.shown ≡ shown_of p.plan p.solo front ++ tagged (length front) (shown_by (standing_in p l).master
+    → l.shown ≡ shown_of p front ++ tagged (length front) (shown_by (standing_in p l).master
     (not (is_cut p.plan (standing_in p l).master (length l.entries)) || is_late p.plan (standing_in p l).master (length l.entries))
     (is_cut p.plan (standing_in p l).master (length l.entries) && is_available p l))
 settled_list p l front last h is out =
     let m = (standing_in p l).master in
     let list = whole_form m (is_cut p.plan m (length l.entries)) (is_late p.plan m (length l.entries)) (is_available p l) in
-    h.shown ∙ (ap (shown_of p.plan p.solo) is
+    h.shown ∙ (ap (shown_of p) is
     ∙ sym (whole_shown p front last (shown_by m (not (is_cut p.plan m (length l.entries)) || is_late p.plan m (length l.entries)) (is_cut p.plan m (length l.entries) && is_available p l)) out
-    (sym list ∙ ap (λ es. showers p.plan (standing_from (first_standing p.solo) es) (length es)) is)))
+    (sym list ∙ ap (λ es. showers p.plan (standing p es) (length es)) is)))
 
 settled_tests : (p : Setup) (l : Log) (s : Side) → Settled p l → ends_by_output l.entries ≡ true → (l.entries ≡ []) ⊎ ((front : List Entry) × (last : Entry) × (l.entries ≡ front ++ last ∷ [])) → has_shown l s ≡ has_shown_last l.entries l.shown s
 settled_tests p l s h out (inl e) = absurd (let none : ends_by_output l.entries ≡ false = ap ends_by_output e in cc)
@@ -276,14 +279,14 @@ late_shown p l front last h is out cut late =
     let m = (standing_in p l).master in
     let avail = is_available p l in
     let list : shown_by m true avail ≡ showers p.plan (standing_in p l) (length l.entries) = sym (late_list m avail) ∙ (rw (cut, late)) in
-    let all : l.shown ≡ shown_of p.plan p.solo front ++ tagged (length front) (shown_by m true avail) =
-    h.shown ∙ (ap (shown_of p.plan p.solo) is ∙ sym (whole_shown p front last (shown_by m true avail) out (list ∙ ap (λ es. showers p.plan (standing_from (first_standing p.solo) es) (length es)) is))) in
+    let all : l.shown ≡ shown_of p front ++ tagged (length front) (shown_by m true avail) =
+    h.shown ∙ (ap (shown_of p) is ∙ sym (whole_shown p front last (shown_by m true avail) out (list ∙ ap (λ es. showers p.plan (standing p es) (length es)) is))) in
     let len : length l.entries ≡ length front + 1 = ap length is ∙ length-append front (last ∷ []) in
-    let few : shown_past_from 0 (shown_from p.plan (first_standing p.solo) 0 front) m ≤ 0 + length front = shown_bound p.plan (first_standing p.solo) 0 0 front m (omega arith) in
-    let has = has_cases (shown_past_from 0 (shown_of p.plan p.solo front) m) (length front) m m true avail (omega (arith, few)) in
+    let few : shown_past_from 0 (shown_from p (first_ledger p) front) m ≤ 0 + length front = shown_bound p (first_ledger p) 0 front m (omega arith) in
+    let has = has_cases (shown_past_from 0 (shown_of p front) m) (length front) m m true avail (omega (arith, few)) in
     ap (λ k. shown_past_from 0 l.shown m == k) len
     ∙ (ap (λ xs. shown_past_from 0 xs m == length front + 1) all
-    ∙ (ap (λ k. k == length front + 1) (shown_past_append 0 (shown_of p.plan p.solo front) (tagged (length front) (shown_by m true avail)) m)
+    ∙ (ap (λ k. k == length front + 1) (shown_past_append 0 (shown_of p front) (tagged (length front) (shown_by m true avail)) m)
     ∙ (has ∙ ap (λ b. if b then true else avail) (self_same m))))
 
 -- the record and the showings tell who is cut
@@ -331,7 +334,7 @@ pending_output : (p : Setup) (l : Log) → is_pending l ≡ true → ends_by_out
 unfolding is_pending
 pending_output p l h = and_first (ends_by_output l.entries) (nat_lt l.marked (length l.entries)) h
 
-pub gone_is : (p : Setup) (l : Log) (s : Side) → GoodLog p l → is_open p l ≡ true → is_down p l s ≡ is_gone p.plan p.solo l.entries l.shown s
+pub gone_is : (p : Setup) (l : Log) (s : Side) → GoodLog p l → is_open p l ≡ true → is_down p l s ≡ is_gone p l.entries l.shown s
 gone_is p l s good on =
     let n = length l.entries in
     let cut = is_cut p.plan s n in
@@ -342,7 +345,7 @@ gone_is p l s good on =
     ∙ (gone_by true cut late same output (is_pending l) (has_shown l s) (pending_output p l) (marked_shown p l s good (last_of l.entries))
     ∙ swap_shown cut late same output (has_shown l s) (has_shown_last l.entries l.shown s) (last_tests p l s good.shows)))
 
-left_is : (p : Setup) (l : Log) (s : Side) → GoodLog p l → is_open p l ≡ true → is_left p l s ≡ stays_in p.plan p.solo l.entries l.shown s
+left_is : (p : Setup) (l : Log) (s : Side) → GoodLog p l → is_open p l ≡ true → is_left p l s ≡ stays_in p l.entries l.shown s
 left_is p l s good on = ap (λ b. runs (standing_in p l) s && not b) (gone_is p l s good on)
 
 -- how the run ended ------------------------------------------------------------
@@ -367,7 +370,7 @@ not_solo false h = refl
 abbrev IsTold : Setup → Option Ended → Type 0
 IsTold p o = (p.solo && not (is_some o)) ≡ false
 
-how_by_end : (p : Setup) (w : World) (o : Option Ended) → Means p w o → Good p w → IsTold p o → IsEnded p.plan p.solo w.log.entries w.log.shown (unwrap_or o Spent)
+how_by_end : (p : Setup) (w : World) (o : Option Ended) → Means p w o → Good p w → IsTold p o → IsEnded p w.log.entries w.log.shown (unwrap_or o Spent)
 how_by_end p w (Some End) h good told = (h.2, full_end p w.log h.0 h.2 good.log.same.within)
 how_by_end p w (Some (Stop code)) h good told = h.1
 how_by_end p w (Some NoneLeft) h good told = (
@@ -382,12 +385,12 @@ how_by_end p w None h good told = (
   not_solo p.solo told,
   λ free less. (
       let on : is_open p w.log ≡ true = open_by p w.log free less in
-      ap (λ b. b || stays_in p.plan p.solo w.log.entries w.log.shown B) (sym (left_is p w.log A good.log on))
+      ap (λ b. b || stays_in p w.log.entries w.log.shown B) (sym (left_is p w.log A good.log on))
       ∙ (ap (λ b. is_left p w.log A || b) (sym (left_is p w.log B good.log on)) ∙ h on)
       ),
 )
 
-pub good_ended : (p : Setup) (w : World) → Good p w → IsTold p (ended p w) → IsEnded p.plan p.solo w.log.entries w.log.shown (ended_by p w)
+pub good_ended : (p : Setup) (w : World) → Good p w → IsTold p (ended p w) → IsEnded p w.log.entries w.log.shown (ended_by p w)
 good_ended p w good told = how_by_end p w (ended p w) (ended_means p w) good told
 
 -- a good world is a run

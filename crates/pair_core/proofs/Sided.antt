@@ -6,83 +6,49 @@ use Rattle.std.proofs.lemmas.List.{take-map}
 use Rattle.s7_events.specs.declared.entry.Side.{Side}
 use Rattle.s7_events.specs.declared.entry.Side.TheVariants.{A, B}
 use Rattle.s7_events.specs.declared.entry.Loss.TheVariants.{Failed, Suspect}
-use Rattle.s7_events.specs.declared.entry.Ask.{Ask}
-use Rattle.s7_events.specs.declared.entry.Ask.TheVariants as asks
 use Rattle.s7_events.specs.declared.entry.Answer.{Answer}
-use Rattle.s7_events.specs.declared.entry.Answer.TheVariants.{Lost, Back, CpuStop}
+use Rattle.s7_events.specs.declared.entry.Answer.TheVariants.{Lost, Back}
 use Rattle.s7_events.specs.declared.entry.Entry.{Entry}
-use Rattle.s7_events.specs.declared.entry.StopCode.{StopCode}
 use Rattle.s7_base.specs.Blocks.{Program}
 use Rattle.mc_machine.specs.Stands.{Running, IsRunning, Stands}
-use Rattle.plant_script.specs.Plan.{Plan}
 use Rattle.subsystem.specs.declared.parts.Life.{Life}
 use Rattle.subsystem.specs.Part.{Part, first_life}
-use Rattle.pair_core.specs.Monitor.{watch_by, is_overdue}
 use Rattle.pair_core.specs.declared.endings.Ended.{Ended}
 use Rattle.pair_core.specs.declared.endings.Ended.TheVariants.{End, Stop, NoneLeft, Spent, NotPlayed}
-use Rattle.pair_core.specs.declared.standing.Standing.{Standing}
-use Rattle.pair_core.specs.Sides.{runs, first_standing, after}
-use Rattle.pair_core.specs.Cuts.{is_cut}
-use Rattle.pair_core.specs.Stops.{stop_by}
-use Rattle.s7_events.specs.declared.entry.StopCode.TheVariants.{Cycle}
-use Rattle.pair_core.specs.Lawful.{IsPlainAnswer, IsMonitoredAnswer, IsLawfulAnswer, LawfulFrom}
+use Rattle.pair_core.specs.Setup.{Setup}
+use Rattle.pair_core.specs.Ledger.{Ledger, first_ledger, after}
+use Rattle.pair_core.specs.Sides.{runs, first_standing}
+use Rattle.pair_core.specs.Lawful.{MayStand, LawfulFrom}
 use Rattle.pair_core.specs.Losses.{loses_by, lost_from, lost_at}
 use Rattle.pair_core.specs.Lives.{Stretch, StretchEnd, with_run, Change, loses, keeps, change_of, ends_by, began_after, stretches_from, EndsAt, IsNext, IsLife, AreLivesOf, AreLives, place_of}
 use Rattle.pair_core.specs.Lives.StretchEnd.{lost_at as is_lost_at}
 use Rattle.pair_core.specs.Endings.{is_gone, is_found_cut}
 use Rattle.pair_core.specs.Played.{answers_of, IsSideOf}
-use Rattle.pair_core.specs.World.{Setup, Log, World, part, standing_in, is_open, is_down, is_behind, ended}
+use Rattle.pair_core.specs.World.{Log, World, part, standing_in, is_open, is_down, is_behind, ended}
 use Rattle.pair_core.specs.Finished.{ended_by}
 use Rattle.pair_core.specs.Places.{lives_of, StandsAfter, IsAt}
 use Rattle.pair_core.specs.Text.{HasTail}
 use Rattle.pair_core.specs.Good.{GoodLog, IsSameSide, Good}
-use Rattle.pair_core.proofs.Losses.{comes_back, lawful_stays, not_lost, ran_first}
-use Rattle.pair_core.proofs.Logs.{down_is}
+use Rattle.pair_core.proofs.Answers.{comes_back, answer_kind, kind_stays, kind_lost}
+use Rattle.pair_core.proofs.Losses.{not_lost, ran_first}
+use Rattle.pair_core.proofs.Logs.{self_same, down_is}
 use Rattle.pair_core.proofs.Opens.{take_all}
 use Rattle.pair_core.proofs.Runs.{Means, ended_means, gone_is}
-
--- a loss for suspicion
-abbrev is_suspicion : Answer → Bool
-is_suspicion (Lost s Suspect) = true
-is_suspicion (Lost s Failed) = false
-is_suspicion answer = false
-
-plain_sure : (plan : Plan) (k : ℕ) (ask : Ask) (answer : Answer) → IsPlainAnswer plan k ask answer → is_suspicion answer ≡ false
-plain_sure plan k (asks.Outputs image) answer e = ap is_suspicion e
-plain_sure plan k asks.Inputs answer e = ap is_suspicion e
-plain_sure plan k asks.Cycle answer e = ap is_suspicion e
-plain_sure plan k asks.Now answer e = ap is_suspicion e
-plain_sure plan k asks.Tick answer e = ap is_suspicion e
-plain_sure plan k asks.Retrigger answer e = ap is_suspicion e
-plain_sure plan k (asks.Reply value) answer e = ap is_suspicion e
-plain_sure plan k (asks.Stop code) answer e = ap is_suspicion e
-plain_sure plan k (asks.ReadP addr width) answer e = absurd e
-plain_sure plan k (asks.WriteP addr width value) answer e = absurd e
-
-monitored_sure : (plan : Plan) (k : ℕ) (ask : Ask) (answer : Answer) (overdue : Bool)
-    → MatchBool overdue (answer ≡ CpuStop Cycle) (IsPlainAnswer plan k ask answer) → is_suspicion answer ≡ false
-monitored_sure plan k ask answer true h = ap is_suspicion h
-monitored_sure plan k ask answer false h = plain_sure plan k ask answer h
-
-sure_by : (plan : Plan) (watch : Option ℕ) (k : ℕ) (ask : Ask) (answer : Answer) (a b : Bool)
-    → MatchBool a (answer ≡ Lost A Failed) (MatchBool b (answer ≡ Lost B Failed) (IsMonitoredAnswer plan watch k ask answer)) → is_suspicion answer ≡ false
-sure_by plan watch k ask answer true b h = ap is_suspicion h
-sure_by plan watch k ask answer false true h = ap is_suspicion h
-sure_by plan watch k ask answer false false h = monitored_sure plan k ask answer (is_overdue watch k) h
-
--- no side is lost for suspicion yet
-lawful_sure : (plan : Plan) (st : Standing) (watch : Option ℕ) (k : ℕ) (ask : Ask) (answer : Answer) → IsLawfulAnswer plan st watch k ask answer → is_suspicion answer ≡ false
-lawful_sure plan st watch k ask answer h = sure_by plan watch k ask answer (st.a && st.b && is_cut plan A k) (st.a && st.b && is_cut plan B k) h
 
 change_stays : (answer : Answer) (s : Side) → loses_by answer s ≡ false → comes_back answer ≡ false → change_of answer s ≡ keeps
 change_stays (Lost t why) s h b = ap (λ x. if x then loses why else keeps) h
 change_stays (Back t) s h b = absurd cc
 change_stays answer s h b = refl
 
-change_lost : (answer : Answer) (s : Side) → loses_by answer s ≡ true → is_suspicion answer ≡ false → change_of answer s ≡ loses Failed
-change_lost (Lost t Failed) s h b = ap (λ x. if x then loses Failed else keeps) h
-change_lost (Lost t Suspect) s h b = absurd cc
-change_lost answer s h b = absurd cc
+-- a lawful loss is one for failure
+change_lost : (p : Setup) (g : Ledger) (e : Entry) (s : Side) → MayStand p g e → loses_by e.answer s ≡ true → change_of e.answer s ≡ loses Failed
+change_lost p g e s may h =
+    let l = kind_lost p g e.answer s (answer_kind p g e.request.ask e.answer may.answer) h in
+    ap (λ a. change_of a s) l.is ∙ ap (λ b. if b then loses Failed else keeps) (self_same s)
+
+-- and no side comes back
+change_keeps : (p : Setup) (g : Ledger) (e : Entry) (s : Side) → MayStand p g e → loses_by e.answer s ≡ false → change_of e.answer s ≡ keeps
+change_keeps p g e s may h = change_stays e.answer s h (kind_stays p g e.answer (answer_kind p g e.request.ask e.answer may.answer))
 
 -- the end of the one stretch of a side
 abbrev end_of : Option ℕ → StretchEnd
@@ -92,33 +58,29 @@ end_of (Some j) = is_lost_at Failed j
 abbrev next_stretches : Option ℕ → ℕ → Change → List Entry → Side → List Stretch
 next_stretches began k change es s = ends_by began k change ++ stretches_from (began_after began k change) (k + 1) es s
 
-module _ (plan : Plan) (s : Side) where
+module _ (p : Setup) (s : Side) where
   -- a side that is out has no further stretch
-  out_stretches : (st : Standing) (before : Option StopCode) (watch : Option ℕ) (k : ℕ) (es : List Entry) → LawfulFrom plan st before watch k es → stretches_from None k es s ≡ []
-  out_stretches st before watch k [] lawful = refl
-  out_stretches st before watch k (e ∷ es) lawful =
-      let rest = out_stretches (after st e) (stop_by e.request.ask e.answer) (watch_by watch k e.request.ask e.answer) (k + 1) es lawful.1 in
+  out_stretches : (g : Ledger) (k : ℕ) (es : List Entry) → LawfulFrom p g es → stretches_from None k es s ≡ []
+  out_stretches g k [] lawful = refl
+  out_stretches g k (e ∷ es) lawful =
+      let rest = out_stretches (after p g e) (k + 1) es lawful.1 in
       let P : Bool → Type 0 = λ b. loses_by e.answer s ≡ b → stretches_from None k (e ∷ es) s ≡ [] in
       let by : P (loses_by e.answer s) = elim (loses_by e.answer s) as P [
-        | true ↦ λ l. ap (λ c. next_stretches None k c es s) (change_lost e.answer s l (lawful_sure plan st watch k e.request.ask e.answer lawful.0.answer)) ∙ rest
-        | false ↦ λ l. ap (λ c. next_stretches None k c es s) (change_stays e.answer s l (lawful_stays plan st watch k e.request.ask e.answer lawful.0.answer)) ∙ rest
+        | true ↦ λ l. ap (λ c. next_stretches None k c es s) (change_lost p g e s lawful.0 l) ∙ rest
+        | false ↦ λ l. ap (λ c. next_stretches None k c es s) (change_keeps p g e s lawful.0 l) ∙ rest
       ] in
       by refl
 
   -- a side that runs has one stretch, up to its loss
-  in_stretches : (first : ℕ) (st : Standing) (before : Option StopCode) (watch : Option ℕ) (k : ℕ) (es : List Entry) → LawfulFrom plan st before watch k es
-      → stretches_from (Some first) k es s ≡ record { first = first; last = end_of (lost_from k es s) } ∷ []
-  in_stretches first st before watch k [] lawful = refl
-  in_stretches first st before watch k (e ∷ es) lawful =
-      let more = lawful.1 in
+  in_stretches : (first : ℕ) (g : Ledger) (k : ℕ) (es : List Entry) → LawfulFrom p g es → stretches_from (Some first) k es s ≡ record { first = first; last = end_of (lost_from k es s) } ∷ []
+  in_stretches first g k [] lawful = refl
+  in_stretches first g k (e ∷ es) lawful =
       let P : Bool → Type 0 = λ b. loses_by e.answer s ≡ b → stretches_from (Some first) k (e ∷ es) s ≡ record { first = first; last = end_of (if b then Some k else lost_from (k + 1) es s) } ∷ [] in
       let by : P (loses_by e.answer s) = elim (loses_by e.answer s) as P [
         | true ↦ λ l.
-            ap (λ c. next_stretches (Some first) k c es s) (change_lost e.answer s l (lawful_sure plan st watch k e.request.ask e.answer lawful.0.answer))
-            ∙ ap (λ l. record { first = first; last = is_lost_at Failed k } ∷ l) (out_stretches (after st e) (stop_by e.request.ask e.answer) (watch_by watch k e.request.ask e.answer) (k + 1) es more)
-        | false ↦ λ l.
-            ap (λ c. next_stretches (Some first) k c es s) (change_stays e.answer s l (lawful_stays plan st watch k e.request.ask e.answer lawful.0.answer))
-            ∙ in_stretches first (after st e) (stop_by e.request.ask e.answer) (watch_by watch k e.request.ask e.answer) (k + 1) es more
+            ap (λ c. next_stretches (Some first) k c es s) (change_lost p g e s lawful.0 l)
+            ∙ ap (λ l. record { first = first; last = is_lost_at Failed k } ∷ l) (out_stretches (after p g e) (k + 1) es lawful.1)
+        | false ↦ λ l. ap (λ c. next_stretches (Some first) k c es s) (change_keeps p g e s lawful.0 l) ∙ in_stretches first (after p g e) (k + 1) es lawful.1
       ] in
       by refl
 
@@ -148,7 +110,7 @@ ends_at p w s None m run h = (h.few, (h.running run).near)
 next_by : (p : Setup) (w : World) (s : Side) → Good p w → runs (first_standing p.solo) s ≡ true → (o : Option ℕ) → lost_at w.log.entries s ≡ o → IsNext (length w.log.entries) (ended_by p w) (end_of o) (part w s).place
 next_by p w s good first (Some j) is = (good.sides s).lost j is
 next_by p w s good first None is =
-    let run : runs (standing_in p w.log) s ≡ true = not_lost p.plan s (first_standing p.solo) None None 0 w.log.entries good.log.same.lawful is ∙ first in
+    let run : runs (standing_in p w.log) s ≡ true = not_lost p s (first_ledger p) 0 w.log.entries good.log.same.lawful is ∙ first in
     ends_at p w s (ended p w) (ended_means p w) run (good.sides s)
 
 abbrev LivesAt : Setup → World → Side → Bool → List Life → Type 0
@@ -161,9 +123,9 @@ lives_by p w s good true first =
     let stretch : Stretch = record { first = 0; last = end_of (lost_at w.log.entries s) } in
     let here : IsLife (length w.log.entries) (ended_by p w) stretch life =
     record { first = refl; how = refl; above = omega arith; next = next_by p w s good first (lost_at w.log.entries s) refl } in
-    subst (λ l. AreLivesOf (length w.log.entries) (ended_by p w) l (life ∷ [])) (sym (in_stretches p.plan s 0 (first_standing p.solo) None None 0 w.log.entries good.log.same.lawful)) (here, tt)
+    subst (λ l. AreLivesOf (length w.log.entries) (ended_by p w) l (life ∷ [])) (sym (in_stretches p s 0 (first_ledger p) 0 w.log.entries good.log.same.lawful)) (here, tt)
 lives_by p w s good false first =
-    subst (λ l. AreLivesOf (length w.log.entries) (ended_by p w) l []) (sym (out_stretches p.plan s (first_standing p.solo) None None 0 w.log.entries good.log.same.lawful)) tt
+    subst (λ l. AreLivesOf (length w.log.entries) (ended_by p w) l []) (sym (out_stretches p s (first_ledger p) 0 w.log.entries good.log.same.lawful)) tt
 
 -- the lives of a subsystem that stands where the pair says are those of its side
 side_lives : (p : Setup) (w : World) (s : Side) (lives : List Life) → Good p w → lives ≡ lives_of (part w s) → AreLives p.solo w.log.entries (ended_by p w) s lives
@@ -176,9 +138,9 @@ side_lives p w s lives good is =
 up_closed : (p : Setup) (l : Log) (s : Side) → is_open p l ≡ false → is_down p l s ≡ false
 up_closed p l s off = rw (down_is p l s, off)
 
-up_by : (p : Setup) (l : Log) (s : Side) (on : Bool) → is_open p l ≡ on → GoodLog p l → is_found_cut p.plan p.solo l.entries l.shown s ≡ false → is_down p l s ≡ false
+up_by : (p : Setup) (l : Log) (s : Side) (on : Bool) → is_open p l ≡ on → GoodLog p l → is_found_cut p l.entries l.shown s ≡ false → is_down p l s ≡ false
 unfolding is_open
-up_by p l s true on good up = gone_is p l s good on ∙ (ap (λ b. b && is_gone p.plan p.solo l.entries l.shown s) (sym on) ∙ up)
+up_by p l s true on good up = gone_is p l s good on ∙ (ap (λ b. b && is_gone p l.entries l.shown s) (sym on) ∙ up)
 up_by p l s false on good up = up_closed p l s on
 
 stands_open : (program : Program) (given : List Answer) (machine : Option Running) → Stands program given machine → IsRunning machine
@@ -200,7 +162,7 @@ side_of p w s sub good at_own = record {
       );
   machine = λ run on. (
       let stands = (at_own.machine (alive_by (part w s).alive sub.machine on at_own.idle)).stands in
-      let loaded : (part w s).loaded ≡ true = (good.sides s).loaded ∙ ran_first p.plan s (first_standing p.solo) None None 0 w.log.entries good.log.same.lawful run in
+      let loaded : (part w s).loaded ≡ true = (good.sides s).loaded ∙ ran_first p s w.log.entries good.log.same.lawful run in
       let place : place_of sub.lives ≡ (part w s).place = ap place_of at_own.lives ∙ ap (λ b. place_of (if b then record first_life { next = (part w s).place } ∷ [] else [])) loaded in
       let taken : take (place_of sub.lives) (answers_of w.log.entries) ≡ answers_of (take (part w s).place w.log.entries) =
       ap (λ k. take k (answers_of w.log.entries)) place ∙ take-map (λ (e : Entry). e.answer) (part w s).place w.log.entries in

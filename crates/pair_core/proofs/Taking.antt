@@ -8,34 +8,30 @@ use Rattle.s7_events.specs.declared.entry.Side.TheVariants.{A, B}
 use Rattle.s7_events.specs.declared.entry.Request.{Request}
 use Rattle.s7_events.specs.declared.entry.Answer.{Answer}
 use Rattle.s7_events.specs.declared.entry.Entry.{Entry}
-use Rattle.s7_events.specs.declared.entry.StopCode.{StopCode}
 use Rattle.s7_base.specs.Blocks.{Program}
 use Rattle.mc_machine.specs.Meaning.{std, next_of, asked_after, takes, is_dated, stops_cpu}
 use Rattle.mc_machine.specs.Stands.{Running, CanAsk, CanTake, CanGoOn, IsTaken, GoesOn, WaitsAt, Stands, CpuWaits}
 use Rattle.subsystem.specs.declared.parts.Life.{Life}
 use Rattle.subsystem.specs.Part.{Part, first_life, TookOne}
-use Rattle.plant_script.specs.Plan.{Plan}
-use Rattle.pair_core.specs.Monitor.{watch_by, watch_from}
-use Rattle.pair_core.specs.declared.standing.Standing.{Standing}
+use Rattle.pair_core.specs.Setup.{Setup}
+use Rattle.pair_core.specs.Ledger.{Ledger, first_ledger, after, ledger_from, ledger}
 use Rattle.pair_core.specs.declared.own.Own.{Own}
-use Rattle.pair_core.specs.Sides.{first_standing, standing_from, after}
 use Rattle.pair_core.specs.Lawful.{MayStand, LawfulFrom}
-use Rattle.pair_core.specs.Stops.{stop_by, stop_from, stop_of}
+use Rattle.pair_core.specs.Stops.{stop_by, stop_of}
 use Rattle.pair_core.specs.Played.{requests_of, answers_of}
-use Rattle.pair_core.specs.declared.own.Parts.{Parts}
-use Rattle.pair_core.specs.World.{Setup, Log, taken_one, part_in, with_part}
+use Rattle.pair_core.specs.declared.sides.Sides.{Sides}
+use Rattle.pair_core.specs.World.{Log, taken_one}
+use Rattle.pair_core.specs.Sides.{of_side, with_side}
 use Rattle.pair_core.specs.Places.{lives_of, IsAt}
 use Rattle.pair_core.specs.Good.{GoodLog}
 use Rattle.pair_core.proofs.Lasts.{stop_snoc}
-use Rattle.pair_core.proofs.Snoc.{shift, answers_snoc}
+use Rattle.pair_core.proofs.Snoc.{stop_is, moment_is, answers_snoc}
 use Rattle.pair_core.proofs.Answers.{lawful_takes, lawful_dated, not_stopping}
 
 -- an entry in the middle of a lawful record may stand there
-lawful_mid : (plan : Plan) (st : Standing) (before : Option StopCode) (watch : Option ℕ) (k : ℕ) (front : List Entry) (e : Entry) (rest : List Entry)
-    → LawfulFrom plan st before watch k (front ++ e ∷ rest) → MayStand plan (standing_from st front) (stop_from before front) (watch_from watch k front) (k + length front) e
-lawful_mid plan st before watch k [] e rest h = rw add-zero h.0
-lawful_mid plan st before watch k (x ∷ xs) e rest h =
-    rw (shift k (length xs)) (lawful_mid plan (after st x) (stop_by x.request.ask x.answer) (watch_by watch k x.request.ask x.answer) (k + 1) xs e rest h.1)
+lawful_mid : (p : Setup) (g : Ledger) (front : List Entry) (e : Entry) (rest : List Entry) → LawfulFrom p g (front ++ e ∷ rest) → MayStand p (ledger_from p g front) e
+lawful_mid p g [] e rest h = h.0
+lawful_mid p g (x ∷ xs) e rest h = lawful_mid p (after p g x) xs e rest h.1
 
 -- the request of an entry in the middle is what the CPU asks there
 asked_mid : (program : Program) (before : List Answer) (front : List Entry) (e : Entry) (rest : List Entry)
@@ -68,14 +64,13 @@ met p l k e good here =
     let is : l.entries ≡ take k l.entries ++ e ∷ drop (k + 1) l.entries = split_at l.entries k e here in
     let front = take k l.entries in
     let rest = drop (k + 1) l.entries in
-    let may : MayStand p.plan (standing_from (first_standing p.solo) front) (stop_from None front) (watch_from None 0 front) (0 + length front) e =
-    lawful_mid p.plan (first_standing p.solo) None None 0 front e rest (subst (λ es. LawfulFrom p.plan (first_standing p.solo) None None 0 es) is good.same.lawful) in
+    let g = ledger p front in
+    let may : MayStand p g e = lawful_mid p (first_ledger p) front e rest (subst (λ es. LawfulFrom p (first_ledger p) es) is good.same.lawful) in
+    let here_k : g.moment ≡ k = moment_is p front ∙ length-take-le k l.entries (let within = slice_get_within l.entries k e here in omega arith) in
     record {
-      going = may.going;
-      fits = lawful_takes p.plan (standing_from (first_standing p.solo) front) (watch_from None 0 front) (0 + length front) e.request e.answer may.answer;
-      dated =
-          subst (λ n. is_dated n e.answer ≡ true) (zero-add (length front) ∙ length-take-le k l.entries (let within = slice_get_within l.entries k e here in omega arith))
-          (lawful_dated p.plan (standing_from (first_standing p.solo) front) (watch_from None 0 front) (0 + length front) e.request.ask e.answer may.answer);
+      going = sym (stop_is p front) ∙ may.going;
+      fits = lawful_takes p g e.request e.answer may.answer;
+      dated = subst (λ n. is_dated n e.answer ≡ true) here_k (lawful_dated p g e.request.ask e.answer may.answer);
       asked = asked_mid p.program [] front e rest (subst (λ es. requests_of es ≡ asked_after p.program [] (answers_of es)) is good.same.requests);
     }
 
@@ -162,27 +157,27 @@ take_next es k e here =
     let within = slice_get_within es k e here in
     take_more es k e within ∙ ap (λ (x : Entry). take k es ++ x ∷ []) (get_or_from_slice_get es k e e here)
 
-part_put : (parts : Parts) (side : Side) (own : Own) → part_in (with_part parts side own) side ≡ own
+part_put : (parts : Sides Own) (side : Side) (own : Own) → of_side (with_side parts side own) side ≡ own
 part_put parts A own = refl
 part_put parts B own = refl
 
 -- what is kept of a side that has taken an entry
-pub put_taken : (parts new : Parts) (side : Side) (own : Own) (program : Program) (es : List Entry) (s : Part) → own ≡ part_in parts side
-    → new ≡ with_part parts side (record own { place = own.place + 1 })
-    → IsAt program (taken_one (part_in parts side)) es s → IsAt program (part_in new side) es s
+pub put_taken : (parts new : Sides Own) (side : Side) (own : Own) (program : Program) (es : List Entry) (s : Part) → own ≡ of_side parts side
+    → new ≡ with_side parts side (record own { place = own.place + 1 })
+    → IsAt program (taken_one (of_side parts side)) es s → IsAt program (of_side new side) es s
 put_taken parts new side own program es s is put h =
-    let same : part_in new side ≡ taken_one (part_in parts side) = ap (λ ps. part_in ps side) put ∙ (part_put parts side (record own { place = own.place + 1 }) ∙ ap taken_one is) in
+    let same : of_side new side ≡ taken_one (of_side parts side) = ap (λ ps. of_side ps side) put ∙ (part_put parts side (record own { place = own.place + 1 }) ∙ ap taken_one is) in
     subst (λ o. IsAt program o es s) (sym same) h
 
 -- a side that has appended an entry, and taken it, stands behind it
-pub put_added : (program now : Program) (parts mid new : Parts) (side : Side) (own : Own) (n : ℕ) (es all : List Entry) (e : Entry) (s : Part)
-    → now ≡ program → all ≡ es ++ e ∷ [] → mid ≡ parts → own ≡ part_in parts side → n ≡ own.place
-    → new ≡ with_part mid side (record own { place = n + 1 })
-    → IsAt program (taken_one (part_in parts side)) (es ++ e ∷ []) s → IsAt now (part_in new side) all s
+pub put_added : (program now : Program) (parts mid new : Sides Own) (side : Side) (own : Own) (n : ℕ) (es all : List Entry) (e : Entry) (s : Part)
+    → now ≡ program → all ≡ es ++ e ∷ [] → mid ≡ parts → own ≡ of_side parts side → n ≡ own.place
+    → new ≡ with_side mid side (record own { place = n + 1 })
+    → IsAt program (taken_one (of_side parts side)) (es ++ e ∷ []) s → IsAt now (of_side new side) all s
 put_added program now parts mid new side own n es all e s same longer kept is count put h =
     rw (same, longer)
     (put_taken parts new side own program (es ++ e ∷ []) s is
-    (put ∙ ap (λ q. with_part q side (record own { place = n + 1 })) kept ∙ ap (λ k. with_part parts side (record own { place = k + 1 })) count) h)
+    (put ∙ ap (λ q. with_side q side (record own { place = n + 1 })) kept ∙ ap (λ k. with_side parts side (record own { place = k + 1 })) count) h)
 
 -- all entries and the one that was added
 pub take_added : (es : List Entry) (k : ℕ) (e : Entry) → k ≡ length es → take (k + 1) (es ++ e ∷ []) ≡ es ++ e ∷ []

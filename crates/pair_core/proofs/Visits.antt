@@ -4,7 +4,8 @@ use Rattle.s7_events.specs.declared.entry.Side.{Side}
 use Rattle.s7_events.specs.declared.entry.Side.TheVariants.{A, B}
 use Rattle.s7_events.specs.declared.entry.Entry.{Entry}
 use Rattle.plant_script.specs.Plan.{IsPlan}
-use Rattle.pair_core.specs.World.{Setup, World, choose, step, first_world, part, ended}
+use Rattle.pair_core.specs.Setup.{Setup}
+use Rattle.pair_core.specs.World.{World, choose, step, first_world, part, ended}
 use Rattle.pair_core.specs.Kept.{CanAct}
 use Rattle.pair_core.specs.Good.{Good, IsSameSide}
 use Rattle.pair_core.proofs.Keeps.{keeps_chosen}

@@ -8,7 +8,9 @@ use Rattle.pair_core.specs.declared.endings.Ended.{Ended}
 use Rattle.pair_core.specs.declared.endings.Ended.TheVariants.{End, Stop, NoneLeft, Spent, NotPlayed}
 use Rattle.plant_script.specs.Plan.{Plan}
 use Rattle.pair_core.specs.Cuts.{is_cut, is_late}
-use Rattle.pair_core.specs.Sides.{same_side, runs, standing}
+use Rattle.pair_core.specs.Setup.{Setup}
+use Rattle.pair_core.specs.Ledger.{standing}
+use Rattle.pair_core.specs.Sides.{same_side, runs}
 use Rattle.pair_core.specs.Showings.{is_output, shown_of}
 use Rattle.pair_core.specs.Stops.{stop_of}
 
@@ -29,13 +31,13 @@ abbrev pub has_shown_last : List Entry → List (ℕ × Side) → Side → Bool
 has_shown_last es shown side = has_shown_from false shown (length es - 1) side
 
 -- the script stops the side, and if it is a late master it has shown the last output
-abbrev pub is_gone : Plan → Bool → List Entry → List (ℕ × Side) → Side → Bool
-is_gone plan solo es shown side =
-    is_cut plan side (length es)
-    && not (is_late plan side (length es) && same_side side (standing solo es).master && ends_by_output es && not (has_shown_last es shown side))
+abbrev pub is_gone : Setup → List Entry → List (ℕ × Side) → Side → Bool
+is_gone p es shown side =
+    is_cut p.plan side (length es)
+    && not (is_late p.plan side (length es) && same_side side (standing p es).master && ends_by_output es && not (has_shown_last es shown side))
 
-abbrev pub stays_in : Plan → Bool → List Entry → List (ℕ × Side) → Side → Bool
-stays_in plan solo es shown side = runs (standing solo es) side && not (is_gone plan solo es shown side)
+abbrev pub stays_in : Setup → List Entry → List (ℕ × Side) → Side → Bool
+stays_in p es shown side = runs (standing p es) side && not (is_gone p es shown side)
 
 -- another entry may follow: the record is not full, and its last entry does not stop the CPU
 abbrev pub may_grow : Plan → List Entry → Bool
@@ -43,24 +45,24 @@ may_grow plan es = nat_lt (length es) plan.end && not (is_some (stop_of es))
 
 -- A visit finds the side cut after these entries and showings: the script stops it at the moment after them, and if it is a late
 -- master it has shown the last output; but nobody is cut from the entry on that ends the run.
-abbrev pub is_found_cut : Plan → Bool → List Entry → List (ℕ × Side) → Side → Bool
-is_found_cut plan solo es shown side = may_grow plan es && is_gone plan solo es shown side
+abbrev pub is_found_cut : Setup → List Entry → List (ℕ × Side) → Side → Bool
+is_found_cut p es shown side = may_grow p.plan es && is_gone p es shown side
 
 -- by a stop: the last entry stops the CPU; at the end: the record is full; by none: no side is left; spent: only with two
 -- sides and given letters, while a side is left or all that is missing are the takings and marks
-abbrev pub IsEnded : Plan → Bool → List Entry → List (ℕ × Side) → Ended → Type 0
-IsEnded plan solo es shown End = (stop_of es ≡ None) × (length es ≡ plan.end)
-IsEnded plan solo es shown (Stop code) = stop_of es ≡ Some code
-IsEnded plan solo es shown NoneLeft =
-    (stop_of es ≡ None) × (length es < plan.end) × (stays_in plan solo es shown A ≡ false) × (stays_in plan solo es shown B ≡ false)
-IsEnded plan solo es shown Spent =
-    (solo ≡ false) × (stop_of es ≡ None → length es < plan.end → (stays_in plan solo es shown A || stays_in plan solo es shown B) ≡ true)
-IsEnded plan solo es shown NotPlayed = ⊥
+abbrev pub IsEnded : Setup → List Entry → List (ℕ × Side) → Ended → Type 0
+IsEnded p es shown End = (stop_of es ≡ None) × (length es ≡ p.plan.end)
+IsEnded p es shown (Stop code) = stop_of es ≡ Some code
+IsEnded p es shown NoneLeft =
+    (stop_of es ≡ None) × (length es < p.plan.end) × (stays_in p es shown A ≡ false) × (stays_in p es shown B ≡ false)
+IsEnded p es shown Spent =
+    (p.solo ≡ false) × (stop_of es ≡ None → length es < p.plan.end → (stays_in p es shown A || stays_in p es shown B) ≡ true)
+IsEnded p es shown NotPlayed = ⊥
 
 -- the showings of a run that ended: all of them, but that those of the last entry may be cut short where the letters were used up
-abbrev pub IsShown : Plan → Bool → List Entry → Ended → List (ℕ × Side) → Type 0
-IsShown plan solo es End shown = shown ≡ shown_of plan solo es
-IsShown plan solo es (Stop code) shown = shown ≡ shown_of plan solo es
-IsShown plan solo es NoneLeft shown = shown ≡ shown_of plan solo es
-IsShown plan solo es Spent shown = IsPrefix (shown_of plan solo (take (length es - 1) es)) shown × IsPrefix shown (shown_of plan solo es)
-IsShown plan solo es NotPlayed shown = ⊥
+abbrev pub IsShown : Setup → List Entry → Ended → List (ℕ × Side) → Type 0
+IsShown p es End shown = shown ≡ shown_of p es
+IsShown p es (Stop code) shown = shown ≡ shown_of p es
+IsShown p es NoneLeft shown = shown ≡ shown_of p es
+IsShown p es Spent shown = IsPrefix (shown_of p (take (length es - 1) es)) shown × IsPrefix shown (shown_of p es)
+IsShown p es NotPlayed shown = ⊥

@@ -2,7 +2,8 @@
 use Rattle.std.specs.Prelude.{◌≡◌, false, not, ◌&&◌, is_some, unwrap_or}
 use Rattle.pair_core.specs.declared.endings.Ended.{Ended}
 use Rattle.pair_core.specs.declared.endings.Ended.TheVariants.{Spent}
-use Rattle.pair_core.specs.World.{Setup, World, ended}
+use Rattle.pair_core.specs.Setup.{Setup}
+use Rattle.pair_core.specs.World.{World, ended}
 
 -- Spent where nothing else holds
 abbrev pub ended_by : Setup → World → Ended

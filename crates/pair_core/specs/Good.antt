@@ -6,13 +6,15 @@ use Rattle.s7_events.specs.declared.entry.Answer.TheVariants.{Lost}
 use Rattle.s7_events.specs.declared.entry.Entry.{Entry}
 use Rattle.mc_machine.specs.Meaning.{asked}
 use Rattle.pair_core.specs.declared.own.Own.{Own}
-use Rattle.pair_core.specs.Sides.{other_side, runs, first_standing, standing}
+use Rattle.pair_core.specs.Setup.{Setup}
+use Rattle.pair_core.specs.Ledger.{standing}
+use Rattle.pair_core.specs.Sides.{other_side, runs, first_standing}
 use Rattle.pair_core.specs.Cuts.{is_cut, is_late}
-use Rattle.pair_core.specs.Lawful.{Lawful}
+use Rattle.pair_core.specs.Lawful.{IsLawful}
 use Rattle.pair_core.specs.Showings.{is_output, tagged, shown_of}
 use Rattle.pair_core.specs.Played.{requests_of, answers_of}
 use Rattle.pair_core.specs.Losses.{lost_at, IsNear}
-use Rattle.pair_core.specs.World.{Setup, Log, World, part, standing_in, is_down, ended}
+use Rattle.pair_core.specs.World.{Log, World, part, standing_in, is_down, ended}
 
 -- one past the last output
 abbrev pub marked_from : ℕ → ℕ → List Entry → ℕ
@@ -39,7 +41,7 @@ is_available p l =
 
 -- every output is marked, and its showings are whole
 pub record Settled (p : Setup) (l : Log) : Type 0 where
-  pub shown : l.shown ≡ shown_of p.plan p.solo l.entries
+  pub shown : l.shown ≡ shown_of p l.entries
   pub marked : l.marked ≡ marked_of l.entries
 
 -- the last entry is an output that is not marked; its showings are the first of those that it is to have
@@ -51,18 +53,18 @@ pub record Pending (p : Setup) (l : Log) : Type 0 where
   pub marked : l.marked ≡ marked_of front
   pub by_master : Bool
   pub by_other : Bool
-  pub shown : l.shown ≡ shown_of p.plan p.solo front ++ tagged (length front) (shown_by (standing_in p l).master by_master by_other)
+  pub shown : l.shown ≡ shown_of p front ++ tagged (length front) (shown_by (standing_in p l).master by_master by_other)
   pub allowed : may_have (is_cut p.plan (standing_in p l).master (length l.entries)) (is_late p.plan (standing_in p l).master (length l.entries)) (is_available p l) by_master by_other ≡ true
 
 -- The record is lawful, and its requests are the standard CPU's.
 pub record IsSameRecord (p : Setup) (es : List Entry) : Type 0 where
-  pub lawful : Lawful p.plan p.solo es
+  pub lawful : IsLawful p es
   pub requests : requests_of es ≡ asked p.program (answers_of es)
   pub within : length es ≤ p.plan.end
   -- the master runs
-  pub master : runs (standing p.solo es) (standing p.solo es).master ≡ true
+  pub master : runs (standing p es) (standing p es).master ≡ true
   -- no side that runs after an entry was cut at that entry
-  pub fresh : (s : Side) → runs (standing p.solo es) s ≡ true → (k : ℕ) → k + 1 ≡ length es → is_cut p.plan s k ≡ false
+  pub fresh : (s : Side) → runs (standing p es) s ≡ true → (k : ℕ) → k + 1 ≡ length es → is_cut p.plan s k ≡ false
 
 -- what is shown follows from the record: whole lists, but that those of an unmarked last output may be cut short
 abbrev pub IsSameShown : Setup → Log → Type 0

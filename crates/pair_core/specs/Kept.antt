@@ -1,21 +1,23 @@
 -- What the fields of a pair stand for.
 use Rattle.std.specs.Prelude.{◌≡◌, ℕ, ◌≤◌, ◌*◌, ◌<◌, true, length}
 use Rattle.s7_events.specs.declared.entry.Side.{Side}
-use Rattle.s7_events.specs.declared.entry.Side.TheVariants.{A, B}
 use Rattle.plant_script.specs.Plan.{Plan, IsPlan}
 use Rattle.plant_script.specs.InputImage.{Image, IsImageOf}
 use Rattle.pair_core.specs.declared.turns.Act.{Act}
 use Rattle.pair_core.specs.declared.turns.Act.TheVariants.{Over, Dead, Take, Show, Mark, Unmarked, Behind, Append}
+use Rattle.pair_core.specs.declared.state.Derived.{Derived}
 use Rattle.pair_core.specs.declared.state.State.{State}
+use Rattle.pair_core.specs.Sides.{of_side}
 use Rattle.pair_core.specs.CutsKept.{IsCutsAt}
-use Rattle.pair_core.specs.Monitor.{watch_of}
-use Rattle.pair_core.specs.World.{Setup, Log, World, Game, part, standing_in, shown_past, is_open}
+use Rattle.pair_core.specs.Setup.{Setup, made_for}
+use Rattle.pair_core.specs.Ledger.{ledger}
+use Rattle.pair_core.specs.World.{Log, World, Game, part, standing_in, shown_past, is_open}
 
 abbrev pub setup_of : State → Setup
-setup_of s = record { program = s.program; plan = s.script; solo = s.solo }
+setup_of s = made_for s.setup.program s.setup.script s.setup.solo
 
 abbrev pub log_of : State → Log
-log_of s = record { entries = s.log.entries; shown = s.shown.list; marked = s.marked }
+log_of s = record { entries = s.log.record.entries; shown = s.log.shown.list; marked = s.log.marked }
 
 abbrev pub world_of : State → World
 world_of s = record { log = log_of s; parts = s.parts }
@@ -27,18 +29,22 @@ game_of s = record { setup = setup_of s; world = world_of s }
 abbrev pub IsImageBefore : Plan → ℕ → Image → Type 0
 IsImageBefore plan k image = (earlier : ℕ) × (earlier ≤ k) × IsImageOf plan earlier image
 
--- the fields that repeat what the record, the showings and the script say, and the room
+-- what is derived is what the record, the showings and the script say
+pub record IsDerived (p : Setup) (l : Log) (derived : Derived) : Type 0 where
+  pub standing : derived.standing ≡ standing_in p l
+  pub watch : derived.watch ≡ (ledger p l.entries).watch
+  pub moment : (ledger p l.entries).moment ≡ length l.entries
+  pub past : (side : Side) → of_side derived.past side ≡ shown_past l.shown side
+  pub image : IsImageBefore p.plan (length l.entries) derived.image
+  pub cuts : IsCutsAt p.plan (length l.entries) derived.cuts
+
+-- that, and the capacity
 pub record IsKept (s : State) : Type 0 where
-  pub standing : s.standing ≡ standing_in (setup_of s) (log_of s)
-  pub watch : s.watch ≡ watch_of s.log.entries
-  pub shown_a : s.shown_by_a ≡ shown_past s.shown.list A
-  pub shown_b : s.shown_by_b ≡ shown_past s.shown.list B
-  pub image : IsImageBefore s.script (length s.log.entries) s.image
-  pub cuts : IsCutsAt s.script (length s.log.entries) s.cuts
-  pub few : length s.log.entries ≤ s.script.end
-  pub plan : IsPlan s.script
-  pub room : s.log.room ≡ s.script.end
-  pub shown_room : s.shown.room ≡ 2 * s.script.end
+  pub derived : IsDerived (setup_of s) (log_of s) s.derived
+  pub few : length s.log.record.entries ≤ s.setup.script.end
+  pub plan : IsPlan s.setup.script
+  pub room : s.log.record.room ≡ s.setup.script.end
+  pub shown_room : s.log.shown.room ≡ 2 * s.setup.script.end
 
 -- the act can be done
 abbrev pub CanAct : Setup → World → Side → Act → Type 0

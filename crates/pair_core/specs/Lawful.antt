@@ -1,65 +1,75 @@
--- Which records are lawful for a script.
-use Rattle.std.specs.Prelude.{◌≡◌, ℕ, ◌+◌, ◌<◌, Bool, true, not, ◌&&◌, ◌||◌, List, [], ◌∷◌, Option, None, MatchBool}
+-- Which records are lawful for a program and a script.
+use Rattle.std.specs.Prelude.{◌≡◌, ℕ, ◌<◌, Bool, true, not, ◌&&◌, ◌||◌, if◌then◌else◌, List, [], ◌∷◌, Option, Some, None}
+use Rattle.s7_events.specs.declared.entry.Side.{Side}
 use Rattle.s7_events.specs.declared.entry.Side.TheVariants.{A, B}
 use Rattle.s7_events.specs.declared.entry.Loss.TheVariants.{Failed}
+use Rattle.s7_events.specs.declared.entry.StopCode.TheVariants as codes
 use Rattle.s7_events.specs.declared.entry.Ask.{Ask}
 use Rattle.s7_events.specs.declared.entry.Ask.TheVariants as asks
 use Rattle.s7_events.specs.declared.entry.Answer.{Answer}
 use Rattle.s7_events.specs.declared.entry.Answer.TheVariants as answers
 use Rattle.s7_events.specs.declared.entry.Entry.{Entry}
+use Rattle.s7_base.specs.Blocks.{Program}
 use Rattle.plant_script.specs.Plan.{Plan}
 use Rattle.plant_script.specs.InputImage.{input_image}
 use Rattle.pair_core.specs.Cuts.{is_cut}
-use Rattle.pair_core.specs.Sides.{first_standing, after}
-use Rattle.pair_core.specs.declared.standing.Standing.{Standing}
-use Rattle.pair_core.specs.Stops.{stop_by}
-use Rattle.s7_events.specs.declared.entry.StopCode.{StopCode}
-use Rattle.s7_events.specs.declared.entry.StopCode.TheVariants as codes
-use Rattle.pair_core.specs.Monitor.{watch_by, is_overdue}
+use Rattle.pair_core.specs.Setup.{Setup, made_for}
+use Rattle.pair_core.specs.Ledger.{Ledger, first_ledger, after}
+use Rattle.pair_core.specs.Monitor.{is_overdue}
 
--- The answer to a request that nothing bars, at a moment: the input image is that of the plant, and all else is done.
--- Direct access is not built yet, so no answer to it is lawful.
-abbrev pub IsPlainAnswer : Plan → ℕ → Ask → Answer → Type 0
-IsPlainAnswer plan k (asks.Outputs image) answer = answer ≡ answers.Done
-IsPlainAnswer plan k asks.Inputs answer = answer ≡ answers.Image (input_image plan k)
-IsPlainAnswer plan k asks.Cycle answer = answer ≡ answers.Go
-IsPlainAnswer plan k asks.Now answer = answer ≡ answers.Now k
-IsPlainAnswer plan k asks.Tick answer = answer ≡ answers.Done
-IsPlainAnswer plan k asks.Retrigger answer = answer ≡ answers.Done
-IsPlainAnswer plan k (asks.Reply value) answer = answer ≡ answers.Done
-IsPlainAnswer plan k (asks.Stop code) answer = answer ≡ answers.Done
-IsPlainAnswer plan k (asks.ReadP addr width) answer = ⊥
-IsPlainAnswer plan k (asks.WriteP addr width value) answer = ⊥
+-- The answer to a request that nothing prevents, at a moment: the input image is that of the plant, and all else is done.
+-- Direct access is not supported yet, so no answer to it is lawful.
+abbrev pub plain_answer : Plan → ℕ → Ask → Option Answer
+plain_answer plan k (asks.Outputs image) = Some answers.Done
+plain_answer plan k asks.Inputs = Some (answers.Image (input_image plan k))
+plain_answer plan k asks.Cycle = Some answers.Go
+plain_answer plan k asks.Now = Some (answers.Now k)
+plain_answer plan k asks.Tick = Some answers.Done
+plain_answer plan k asks.Retrigger = Some answers.Done
+plain_answer plan k (asks.Reply value) = Some answers.Done
+plain_answer plan k (asks.Stop code) = Some answers.Done
+plain_answer plan k (asks.ReadP addr width) = None
+plain_answer plan k (asks.WriteP addr width value) = None
 
--- where the monitoring time has passed the CPU is stopped: it has no block that answers this
-abbrev pub IsMonitoredAnswer : Plan → Option ℕ → ℕ → Ask → Answer → Type 0
-IsMonitoredAnswer plan watch k ask answer = MatchBool (is_overdue watch k) (answer ≡ answers.CpuStop codes.Cycle) (IsPlainAnswer plan k ask answer)
+-- the answer where no side is lost: a cycle that takes too long stops the CPU; else the plain answer
+unfoldable pub going_answer : Setup → Ledger → Ask → Option Answer
+going_answer p g ask =
+    if is_overdue p.program g.watch g.moment then Some (answers.CpuStop codes.Cycle) else plain_answer p.plan g.moment ask
 
--- The lawful answer, by the first rule that applies: of two sides that run, the one that is cut is lost; a cycle that takes
--- too long stops the CPU; else the plain answer. The cycle is monitored from the moment `watch`, if it is.
-abbrev pub IsLawfulAnswer : Plan → Standing → Option ℕ → ℕ → Ask → Answer → Type 0
-IsLawfulAnswer plan st watch k ask answer =
-    MatchBool (st.a && st.b && is_cut plan A k) (answer ≡ answers.Lost A Failed)
-    (MatchBool (st.a && st.b && is_cut plan B k) (answer ≡ answers.Lost B Failed) (IsMonitoredAnswer plan watch k ask answer))
+-- two sides run, and this one is cut
+abbrev pub falls : Setup → Ledger → Side → Bool
+falls p g s = g.standing.running.a && g.standing.running.b && is_cut p.plan s g.moment
+
+-- The lawful answer, given what the record says so far, by the first rule that applies: of two sides that run, the one that is
+-- cut is lost; a cycle that takes too long stops the CPU; else the plain answer.
+abbrev pub answer_at : Setup → Ledger → Ask → Option Answer
+answer_at p g ask =
+    if falls p g A then Some (answers.Lost A Failed) else (if falls p g B then Some (answers.Lost B Failed) else going_answer p g ask)
+
+-- The answer may be given: it is the one that these rules give. So far no rule leaves a choice.
+abbrev pub MayAnswer : Setup → Ledger → Ask → Answer → Type 0
+MayAnswer p g ask answer = answer_at p g ask ≡ Some answer
 
 -- a side that runs is not cut
-abbrev pub someone_stands : Plan → Standing → ℕ → Bool
-someone_stands plan st k = (st.a && not (is_cut plan A k)) || (st.b && not (is_cut plan B k))
+abbrev pub someone_stands : Setup → Ledger → Bool
+someone_stands p g = (g.standing.running.a && not (is_cut p.plan A g.moment)) || (g.standing.running.b && not (is_cut p.plan B g.moment))
 
--- Entry k may stand: the record is not at its end, no entry before it stopped the CPU, a side that runs is not cut, and
--- its answer is the lawful one.
-pub record MayStand (plan : Plan) (st : Standing) (before : Option StopCode) (watch : Option ℕ) (k : ℕ) (e : Entry) : Type 0 where
-  pub early : k < plan.end
-  pub going : before ≡ None
-  pub stands : someone_stands plan st k ≡ true
-  pub answer : IsLawfulAnswer plan st watch k e.request.ask e.answer
+-- An entry may stand: the record is not at its end, its last entry does not stop the CPU, a side that runs is not cut, and the
+-- answer is one that may be given.
+pub record MayStand (p : Setup) (g : Ledger) (e : Entry) : Type 0 where
+  pub early : g.moment < p.plan.end
+  pub going : g.stop ≡ None
+  pub stands : someone_stands p g ≡ true
+  pub answer : MayAnswer p g e.request.ask e.answer
 
-abbrev pub LawfulFrom : Plan → Standing → Option StopCode → Option ℕ → ℕ → List Entry → Type 0
-LawfulFrom plan st before watch k [] = Unit {0}
-LawfulFrom plan st before watch k (e ∷ es) =
-    MayStand plan st before watch k e
-    × LawfulFrom plan (after st e) (stop_by e.request.ask e.answer) (watch_by watch k e.request.ask e.answer) (k + 1) es
+abbrev pub LawfulFrom : Setup → Ledger → List Entry → Type 0
+LawfulFrom p g [] = Unit {0}
+LawfulFrom p g (e ∷ es) = MayStand p g e × LawfulFrom p (after p g e) es
 
 -- each entry of the record may stand where it stands
-abbrev pub Lawful : Plan → Bool → List Entry → Type 0
-Lawful plan solo es = LawfulFrom plan (first_standing solo) None None 0 es
+abbrev pub IsLawful : Setup → List Entry → Type 0
+IsLawful p es = LawfulFrom p (first_ledger p) es
+
+-- the same of a program, a script and whether side A runs alone
+abbrev pub Lawful : Program → Plan → Bool → List Entry → Type 0
+Lawful program plan solo es = IsLawful (made_for program plan solo) es

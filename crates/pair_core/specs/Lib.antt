@@ -8,6 +8,7 @@ pub mod Good
 pub mod Image
 pub mod Kept
 pub mod Lawful
+pub mod Ledger
 pub mod Lives
 pub mod Losses
 pub mod Monitor
@@ -15,6 +16,7 @@ pub mod OneRecord
 pub mod Places
 pub mod Played
 pub mod Progress
+pub mod Setup
 pub mod Showings
 pub mod Sides
 pub mod Stops

@@ -12,6 +12,6 @@ use Rattle.pair_core.specs.Played.{requests_of, answers_of}
 -- the other. The program, the script and whether side A is alone are those of both.
 abbrev pub OneBegins : Program → Plan → Bool → List Entry → List Entry → Type 0
 OneBegins program plan solo xs ys =
-    requests_of xs ≡ asked program (answers_of xs) → Lawful plan solo xs
-    → requests_of ys ≡ asked program (answers_of ys) → Lawful plan solo ys
+    requests_of xs ≡ asked program (answers_of xs) → Lawful program plan solo xs
+    → requests_of ys ≡ asked program (answers_of ys) → Lawful program plan solo ys
     → IsPrefix xs ys ⊎ IsPrefix ys xs

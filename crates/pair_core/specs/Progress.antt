@@ -1,7 +1,8 @@
 -- How far a run of side A alone has come: each visit that is not answered Over does one more of a bounded number of things.
 use Rattle.std.specs.Prelude.{◌≡◌, ℕ, ◌+◌, ◌*◌, ◌≤◌, true, if◌then◌else◌, length}
 use Rattle.s7_events.specs.declared.entry.Side.TheVariants.{A}
-use Rattle.pair_core.specs.World.{Setup, Log, World, part, is_pending, has_shown}
+use Rattle.pair_core.specs.Setup.{Setup}
+use Rattle.pair_core.specs.World.{Log, World, part, is_pending, has_shown}
 
 -- what was done with the last entry: an unmarked output is to be shown, and then to be marked; else nothing is left to do
 abbrev pub done_with_last : Log → ℕ

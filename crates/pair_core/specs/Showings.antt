@@ -8,7 +8,9 @@ use Rattle.s7_events.specs.declared.entry.Answer.TheVariants.{Done}
 use Rattle.s7_events.specs.declared.entry.Entry.{Entry}
 use Rattle.plant_script.specs.Plan.{Plan}
 use Rattle.pair_core.specs.Cuts.{is_cut, is_late}
-use Rattle.pair_core.specs.Sides.{other_side, runs, first_standing, after}
+use Rattle.pair_core.specs.Setup.{Setup}
+use Rattle.pair_core.specs.Ledger.{Ledger, first_ledger, after}
+use Rattle.pair_core.specs.Sides.{other_side, runs}
 use Rattle.pair_core.specs.declared.standing.Standing.{Standing}
 
 -- an output: its request is Outputs or a direct write, and it is done
@@ -39,10 +41,10 @@ tagged k sides = map (λ side. (k, side)) sides
 abbrev pub showings_of : Plan → Standing → ℕ → Entry → List (ℕ × Side)
 showings_of plan st k e = if is_output e then tagged k (showers plan st (k + 1)) else []
 
-abbrev pub shown_from : Plan → Standing → ℕ → List Entry → List (ℕ × Side)
-shown_from plan st k [] = []
-shown_from plan st k (e ∷ es) = showings_of plan (after st e) k e ++ shown_from plan (after st e) (k + 1) es
+abbrev pub shown_from : Setup → Ledger → List Entry → List (ℕ × Side)
+shown_from p g [] = []
+shown_from p g (e ∷ es) = showings_of p.plan (after p g e).standing g.moment e ++ shown_from p (after p g e) es
 
 -- all showings of a record, each as the number of its entry and the side
-abbrev pub shown_of : Plan → Bool → List Entry → List (ℕ × Side)
-shown_of plan solo es = shown_from plan (first_standing solo) 0 es
+abbrev pub shown_of : Setup → List Entry → List (ℕ × Side)
+shown_of p es = shown_from p (first_ledger p) es

@@ -17,4 +17,4 @@ is_stopped (Some NotPlayed) = false
 
 -- it has stopped; or two sides run; or one. No side comes back or is suspected yet.
 abbrev pub state_by : Option Ended → Standing → SystemState
-state_by ending st = if is_stopped ending then states.Stop else (if st.a && st.b then states.Redundant else states.Solo)
+state_by ending st = if is_stopped ending then states.Stop else (if st.running.a && st.running.b then states.Redundant else states.Solo)

@@ -6,9 +6,7 @@ use Rattle.s7_events.specs.declared.entry.Entry.{Entry}
 use Rattle.s7_events.specs.declared.entry.Request.{Request}
 use Rattle.s7_events.specs.declared.entry.Answer.{Answer}
 use Rattle.s7_events.specs.declared.entry.StopCode.{StopCode}
-use Rattle.s7_base.specs.Blocks.{Program}
 use Rattle.mc_machine.specs.Meaning.{std, next_of}
-use Rattle.plant_script.specs.Plan.{Plan}
 use Rattle.pair_core.specs.declared.endings.Ended.{Ended}
 use Rattle.pair_core.specs.declared.endings.Ended.TheVariants.{End, Stop, NoneLeft}
 use Rattle.pair_core.specs.declared.turns.Reason.TheVariants as reasons
@@ -17,21 +15,17 @@ use Rattle.pair_core.specs.declared.turns.Turn.TheVariants as turns
 use Rattle.pair_core.specs.declared.turns.Act.{Act}
 use Rattle.pair_core.specs.declared.turns.Act.TheVariants.{Over, Dead, Take, Show, Mark, Unmarked, Behind, Append}
 use Rattle.pair_core.specs.declared.own.Own.{Own}
-use Rattle.pair_core.specs.declared.own.Parts.{Parts}
-use Rattle.pair_core.specs.Sides.{same_side, other_side, runs, standing}
+use Rattle.pair_core.specs.declared.sides.Sides.{Sides}
+use Rattle.pair_core.specs.Setup.{Setup}
+use Rattle.pair_core.specs.Ledger.{ledger, standing}
+use Rattle.pair_core.specs.Lawful.{answer_at}
+use Rattle.pair_core.specs.Sides.{same_side, other_side, of_side, with_side, runs}
 use Rattle.pair_core.specs.declared.standing.Standing.{Standing}
 use Rattle.pair_core.specs.Cuts.{is_cut, is_late}
 use Rattle.pair_core.specs.Stops.{stop_of}
 use Rattle.pair_core.specs.Endings.{ends_by_output, may_grow}
 use Rattle.pair_core.specs.Played.{answers_of}
-use Rattle.pair_core.specs.Turns.{answer_at, is_over}
-use Rattle.pair_core.specs.Monitor.{watch_of}
-
--- what a pair is made for: the program of its CPUs, the plant script, and whether side A runs alone
-pub record Setup : Type 0 where
-  pub program : Program
-  pub plan : Plan
-  pub solo : Bool
+use Rattle.pair_core.specs.Turns.{is_over}
 
 -- what both sides share: the record, the showings in their order, and one past the last output that is marked
 pub record Log : Type 0 where
@@ -42,23 +36,15 @@ pub record Log : Type 0 where
 -- the log, and what is kept of each side
 pub record World : Type 0 where
   pub log : Log
-  pub parts : Parts
-
-abbrev pub part_in : Parts → Side → Own
-part_in parts A = parts.a
-part_in parts B = parts.b
-
-abbrev pub with_part : Parts → Side → Own → Parts
-with_part parts A own = record parts { a = own }
-with_part parts B own = record parts { b = own }
+  pub parts : Sides Own
 
 -- what is kept of one side
 abbrev pub part : World → Side → Own
-part w s = part_in w.parts s
+part w s = of_side w.parts s
 
 -- who runs after the record
 abbrev pub standing_in : Setup → Log → Standing
-standing_in p l = standing p.solo l.entries
+standing_in p l = standing p l.entries
 
 -- another entry may follow
 unfoldable pub is_open : Setup → Log → Bool
@@ -143,7 +129,7 @@ entry_with request (Some answer) = Some (record { request = request; answer = an
 
 abbrev pub entry_for : Setup → Log → Option Request → Option Entry
 entry_for p l None = None
-entry_for p l (Some request) = entry_with request (answer_at p.plan (standing_in p l) (watch_of l.entries) (length l.entries) request.ask)
+entry_for p l (Some request) = entry_with request (answer_at p (ledger p l.entries) request.ask)
 
 -- the entry that comes next: what the standard CPU asks after the record's answers, with the lawful answer
 abbrev pub next_entry : Setup → Log → Option Entry
@@ -163,13 +149,13 @@ abbrev pub taken_one : Own → Own
 taken_one own = record own { place = own.place + 1 }
 
 abbrev pub with_own : World → Side → Own → World
-with_own w s own = record w { parts = with_part w.parts s own }
+with_own w s own = record w { parts = with_side w.parts s own }
 
 -- the side appends the entry and takes it; where none may come, which no visit meets, nothing is done
 abbrev pub appended : World → Side → Option Entry → Stepped
 appended w s None = record { world = w; answer = turns.Dead }
 appended w s (Some e) = record {
-  world = record { log = with_entry w.log e; parts = with_part w.parts s (taken_one (part w s)) };
+  world = record { log = with_entry w.log e; parts = with_side w.parts s (taken_one (part w s)) };
   answer = turns.Answered (length w.log.entries);
 }
 

@@ -2,9 +2,10 @@
 ghost use Rattle.std.specs.Prelude.{◌≡◌, ◌+◌, ◌*◌, ◌<◌, ◌++◌, ◌∷◌, [], true, length, slice_get, Some, is_some};
 ghost use Rattle.mc_machine.specs.Stands.{IsAsked};
 ghost use Rattle.pair_core.specs.declared.turns.Act as Act;
-ghost use Rattle.pair_core.specs.Turns.{answer_at};
-ghost use Rattle.pair_core.specs.Monitor.{watch_of};
-ghost use Rattle.pair_core.specs.World.{part_in, with_part, acted, standing_in, next_entry, with_entry};
+ghost use Rattle.pair_core.specs.Ledger.{ledger};
+ghost use Rattle.pair_core.specs.Lawful.{answer_at, going_answer};
+ghost use Rattle.pair_core.specs.World.{acted, next_entry, with_entry};
+ghost use Rattle.pair_core.specs.Sides.{of_side, with_side};
 ghost use Rattle.pair_core.specs.Kept.{setup_of, log_of, world_of, IsKept, CanAct};
 ghost use Rattle.pair_core.specs.Places.{IsAt};
 ghost use Rattle.pair_core.specs.Good.{GoodLog};
@@ -19,17 +20,34 @@ use s7_base::{Answer, Ask, Entry, Loss, Side, StopCode};
 use subsystem::Subsystem;
 
 impl State {
+    /// The answer where no side is lost: a cycle that takes too long stops the CPU; else the plain answer.
+    #[tactic(auto, unfolding(crate::specs::Lawful::going_answer))]
+    fn going_answer(&mut self, ask: &Ask) -> Answer
+        requires kept { IsKept self.old }
+        requires asked { IsAsked ask.now }
+        ensures answer { going_answer (setup_of self.old) (ledger (setup_of self.old) self.old.log.record.entries) ask.now ≡ Some result }
+        ensures world { world_of self.new ≡ world_of self.old }
+        ensures setup { setup_of self.new ≡ setup_of self.old }
+        ensures kept { IsKept self.new }
+    {
+        let moment = self.len();
+        if is_overdue(&self.setup.program, self.derived.watch, moment) {
+            return Answer::CpuStop(StopCode::Cycle);
+        }
+        plain_answer(&self.setup.script, &mut self.derived.image, ask, moment)
+    }
+
     /// The lawful answer to what is asked next: of two sides that run, the one that is cut is lost; and a cycle that
     /// takes too long stops the CPU.
     fn answer(&mut self, ask: &Ask) -> Answer
         requires kept { IsKept self.old }
         requires asked { IsAsked ask.now }
-        ensures answer { answer_at self.old.script (standing_in (setup_of self.old) (log_of self.old)) (watch_of self.old.log.entries) (length self.old.log.entries) ask.now ≡ Some result }
+        ensures answer { answer_at (setup_of self.old) (ledger (setup_of self.old) self.old.log.record.entries) ask.now ≡ Some result }
         ensures world { world_of self.new ≡ world_of self.old }
         ensures setup { setup_of self.new ≡ setup_of self.old }
         ensures kept { IsKept self.new }
     {
-        if self.standing.a && self.standing.b {
+        if self.derived.standing.running.a && self.derived.standing.running.b {
             if self.is_cut(Side::A) {
                 return Answer::Lost {
                     side: Side::A,
@@ -43,31 +61,35 @@ impl State {
                 };
             }
         }
-        let moment = self.len();
-        if is_overdue(self.watch, moment) {
-            return Answer::CpuStop(StopCode::Cycle);
-        }
-        plain_answer(&self.script, &mut self.image, ask, moment)
+        self.going_answer(ask)
     }
 
     /// Adds an entry to the record.
     fn add(&mut self, entry: Entry)
         requires kept { IsKept self.old }
-        requires room { length self.old.log.entries < self.old.script.end }
+        requires room { length self.old.log.record.entries < self.old.setup.script.end }
         ensures log { log_of self.new ≡ with_entry (log_of self.old) entry }
         ensures parts { self.new.parts ≡ self.old.parts }
         ensures setup { setup_of self.new ≡ setup_of self.old }
         ensures kept { IsKept self.new }
     {
         let moment = self.len();
-        self.standing = self.standing.after(&entry.answer);
-        self.watch = watch_by(self.watch, moment, &entry.request.ask, &entry.answer);
-        self.log.append(entry);
-        self.cuts = self.cuts.advance(&self.script, self.log.len());
+        self.derived.standing = self.derived.standing.after(&entry.answer);
+        self.derived.watch = watch_by(
+            self.derived.watch,
+            moment,
+            &entry.request.ask,
+            &entry.answer,
+        );
+        self.log.record.append(entry);
+        self.derived.cuts = self
+            .derived
+            .cuts
+            .advance(&self.setup.script, self.log.record.len());
     }
 
     /// The side shows the last output.
-    #[tactic(auto, using(crate::proofs::Snoc::shown_past_snoc))]
+    #[tactic(auto, using(crate::proofs::Snoc::past_put))]
     fn show(&mut self, side: Side) -> Turn
         requires kept { IsKept self.old }
         requires can { CanAct (setup_of self.old) (world_of self.old) side Act.Show }
@@ -77,20 +99,17 @@ impl State {
         ensures kept { IsKept self.new }
     {
         let entry = self.len() - 1;
-        self.shown.add(entry, side);
-        match side {
-            Side::A => self.shown_by_a = entry + 1,
-            Side::B => self.shown_by_b = entry + 1,
-        }
+        self.log.shown.add(entry, side);
+        self.derived.past.put(side, entry + 1);
         Turn::Show(entry)
     }
 
     /// Entry k of the record.
     fn entry_at(&self, k: u32) -> Entry
-        requires { k < length self.now.log.entries }
-        ensures { slice_get self.now.log.entries k ≡ Some result }
+        requires { k < length self.now.log.record.entries }
+        ensures { slice_get self.now.log.record.entries k ≡ Some result }
     {
-        *self.log.entry(k)
+        *self.log.record.entry(k)
     }
 
     /// The side takes its next entry.
@@ -98,14 +117,14 @@ impl State {
         requires kept { IsKept self.old }
         requires good { GoodLog (setup_of self.old) (log_of self.old) }
         requires can { CanAct (setup_of self.old) (world_of self.old) side Act.Take }
-        requires at { IsAt self.old.program (part_in self.old.parts side) self.old.log.entries sub.old }
+        requires at { IsAt self.old.setup.program (of_side self.old.parts side) self.old.log.record.entries sub.old }
         ensures world { world_of self.new ≡ (acted (setup_of self.old) (world_of self.old) side Act.Take).world }
         ensures turn { result ≡ (acted (setup_of self.old) (world_of self.old) side Act.Take).answer }
         ensures setup { setup_of self.new ≡ setup_of self.old }
         ensures kept { IsKept self.new }
-        ensures at { IsAt self.new.program (part_in self.new.parts side) self.new.log.entries sub.new }
+        ensures at { IsAt self.new.setup.program (of_side self.new.parts side) self.new.log.record.entries sub.new }
     {
-        let own = self.parts.get(side);
+        let own = self.parts.of(side);
         let moment = own.place;
         let entry = self.entry_at(moment);
         sub.ask();
@@ -124,20 +143,20 @@ impl State {
     fn append(&mut self, side: Side, sub: &mut Subsystem) -> Turn
         requires kept { IsKept self.old }
         requires can { CanAct (setup_of self.old) (world_of self.old) side Act.Append }
-        requires at { IsAt self.old.program (part_in self.old.parts side) self.old.log.entries sub.old }
+        requires at { IsAt self.old.setup.program (of_side self.old.parts side) self.old.log.record.entries sub.old }
         ensures world { world_of self.new ≡ (acted (setup_of self.old) (world_of self.old) side Act.Append).world }
         ensures turn { result ≡ (acted (setup_of self.old) (world_of self.old) side Act.Append).answer }
         // an entry comes next
         ensures next { is_some (next_entry (setup_of self.old) (log_of self.old)) ≡ true }
         ensures setup { setup_of self.new ≡ setup_of self.old }
         ensures kept { IsKept self.new }
-        ensures at { IsAt self.new.program (part_in self.new.parts side) self.new.log.entries sub.new }
+        ensures at { IsAt self.new.setup.program (of_side self.new.parts side) self.new.log.record.entries sub.new }
     {
         let moment = self.len();
         let request = sub.ask();
         let answer = self.answer(&request.ask);
         sub.take(&answer, u64::from(moment));
-        let own = self.parts.get(side);
+        let own = self.parts.of(side);
         self.add(Entry { request, answer });
         self.parts.put(
             side,
@@ -152,15 +171,15 @@ impl State {
     /// The subsystem of a side that does not run is cut.
     fn end_life(&mut self, side: Side, sub: &mut Subsystem) -> Turn
         requires kept { IsKept self.old }
-        requires at { IsAt self.old.program (part_in self.old.parts side) self.old.log.entries sub.old }
+        requires at { IsAt self.old.setup.program (of_side self.old.parts side) self.old.log.record.entries sub.old }
         ensures world { world_of self.new ≡ (acted (setup_of self.old) (world_of self.old) side Act.Dead).world }
         ensures turn { result ≡ (acted (setup_of self.old) (world_of self.old) side Act.Dead).answer }
         ensures setup { setup_of self.new ≡ setup_of self.old }
         ensures kept { IsKept self.new }
-        ensures at { IsAt self.new.program (part_in self.new.parts side) self.new.log.entries sub.new }
+        ensures at { IsAt self.new.setup.program (of_side self.new.parts side) self.new.log.record.entries sub.new }
     {
         sub.cut();
-        let own = self.parts.get(side);
+        let own = self.parts.of(side);
         self.parts.put(
             side,
             Own {
@@ -176,18 +195,18 @@ impl State {
         requires kept { IsKept self.old }
         requires good { GoodLog (setup_of self.old) (log_of self.old) }
         requires can { CanAct (setup_of self.old) (world_of self.old) side act }
-        requires at { IsAt self.old.program (part_in self.old.parts side) self.old.log.entries sub.old }
+        requires at { IsAt self.old.setup.program (of_side self.old.parts side) self.old.log.record.entries sub.old }
         ensures world { world_of self.new ≡ (acted (setup_of self.old) (world_of self.old) side act).world }
         ensures turn { result ≡ (acted (setup_of self.old) (world_of self.old) side act).answer }
         // where one is to be appended, an entry comes next
         ensures next { act ≡ Act.Append → is_some (next_entry (setup_of self.old) (log_of self.old)) ≡ true }
         ensures setup { setup_of self.new ≡ setup_of self.old }
         ensures kept { IsKept self.new }
-        ensures at { IsAt self.new.program (part_in self.new.parts side) self.new.log.entries sub.new }
+        ensures at { IsAt self.new.setup.program (of_side self.new.parts side) self.new.log.record.entries sub.new }
     {
         match act {
             Act::Over(ended) => {
-                let own = self.parts.get(side);
+                let own = self.parts.of(side);
                 self.parts.put(side, Own { over: true, ..own });
                 Turn::Over(ended)
             }
@@ -195,11 +214,11 @@ impl State {
             Act::Take => self.take(side, sub),
             Act::Show => self.show(side),
             Act::Mark => {
-                self.marked = self.len();
+                self.log.marked = self.len();
                 Turn::Marked(self.len() - 1)
             }
             Act::Unmarked => Turn::NotYet(Reason::Unmarked(self.len() - 1)),
-            Act::Behind => Turn::NotYet(Reason::Behind(self.parts.get(other(side)).place)),
+            Act::Behind => Turn::NotYet(Reason::Behind(self.parts.of(other(side)).place)),
             Act::Append => self.append(side, sub),
         }
     }

@@ -1,9 +1,10 @@
 //! Which side the script stops, as the moments go on.
 ghost use Rattle.std.specs.Prelude.{◌≡◌};
 ghost use Rattle.pair_core.specs.Cuts.{by_line, is_failed, is_failed_late};
-ghost use Rattle.pair_core.specs.CutsKept.{IsCutsBefore, IsCutsAt, sound_in};
+ghost use Rattle.pair_core.specs.CutsKept.{IsCutsBefore, IsCutsAt};
+ghost use Rattle.pair_core.specs.Sides.{of_side};
 
-use crate::sides::is_same;
+use crate::sides::{Sides, is_same};
 use plant_script::{Script, What};
 use s7_base::Side;
 
@@ -61,8 +62,7 @@ fn by_line(what: What, side: Side, before: Soundness) -> Soundness
 #[derive(Clone, Copy, Debug)]
 pub struct Cuts {
     pub applied: usize,
-    pub a: Soundness,
-    pub b: Soundness,
+    pub made: Sides<Soundness>,
 }
 
 impl Cuts {
@@ -72,8 +72,10 @@ impl Cuts {
     {
         let none = Cuts {
             applied: 0,
-            a: Soundness::Sound,
-            b: Soundness::Sound,
+            made: Sides {
+                a: Soundness::Sound,
+                b: Soundness::Sound,
+            },
         };
         none.advance(script, 0)
     }
@@ -93,8 +95,10 @@ impl Cuts {
             }
             cuts = Cuts {
                 applied: at + 1,
-                a: by_line(event.what, Side::A, cuts.a),
-                b: by_line(event.what, Side::B, cuts.b),
+                made: Sides {
+                    a: by_line(event.what, Side::A, cuts.made.a),
+                    b: by_line(event.what, Side::B, cuts.made.b),
+                },
             };
         }
         cuts
@@ -102,11 +106,8 @@ impl Cuts {
 
     /// What they made of a side.
     pub fn soundness_of(&self, side: Side) -> Soundness
-        ensures { result ≡ sound_in self.now side }
+        ensures { result ≡ of_side self.now.made side }
     {
-        match side {
-            Side::A => self.a,
-            Side::B => self.b,
-        }
+        self.made.of(side)
     }
 }

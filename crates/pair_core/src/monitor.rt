@@ -2,10 +2,13 @@
 ghost use Rattle.std.specs.Prelude.{◌≡◌};
 ghost use Rattle.pair_core.specs.Monitor.{watch_by, is_overdue};
 
-use s7_base::{Answer, Ask};
+use s7_base::{Answer, Ask, Blocks, CodeKind};
 
 /// How long a cycle may take, in milliseconds.
 const MONITORING_TIME: u64 = 150;
+
+/// How long it may take where OB80 is loaded, in milliseconds.
+const LONGEST_TIME: u64 = 300;
 
 /// From which moment the cycle is monitored after entry k, if it is.
 pub fn watch_by(before: Option<u32>, k: u32, ask: &Ask, answer: &Answer) -> Option<u32>
@@ -18,12 +21,16 @@ pub fn watch_by(before: Option<u32>, k: u32, ask: &Ask, answer: &Answer) -> Opti
     }
 }
 
-/// Whether the monitoring time has passed at moment k.
-pub fn is_overdue(watch: Option<u32>, k: u32) -> bool
-    ensures { result ≡ is_overdue watch k }
+/// Whether the cycle takes too long for the CPU of these blocks to go on at moment k: the longest time has passed, or the
+/// monitoring time where OB80 is not loaded.
+pub fn is_overdue(program: &Blocks, watch: Option<u32>, k: u32) -> bool
+    ensures { result ≡ is_overdue program.now watch k }
 {
-    match watch {
-        None => false,
-        Some(start) => u64::from(start) + MONITORING_TIME <= u64::from(k),
-    }
+    let Some(start) = watch else {
+        return false;
+    };
+    let start = u64::from(start);
+    let k = u64::from(k);
+    start + LONGEST_TIME <= k
+        || (start + MONITORING_TIME <= k && program.code(CodeKind::Ob, 80).is_none())
 }

@@ -19,9 +19,10 @@ ghost use Rattle.subsystem.specs.Part.{Part};
 ghost use Rattle.pair_core.specs.Text.{HasTail};
 
 use crate::cuts::Cuts;
-use crate::own::{Own, Parts};
+use crate::own::Own;
+use crate::sides::Sides;
 use crate::standing::Standing;
-use crate::state::State;
+use crate::state::{Derived, Log, Setup, State};
 use crate::{Ended, Shown, SystemState, Turn};
 use event_record::Record;
 use plant_script::{InputImage, Script};
@@ -79,22 +80,27 @@ impl Pair {
         };
         Ok(Pair {
             state: State {
-                program,
-                script,
-                solo,
-                log,
-                shown,
-                marked: 0,
-                parts: Parts {
+                setup: Setup {
+                    program,
+                    script,
+                    solo,
+                },
+                log: Log {
+                    record: log,
+                    shown,
+                    marked: 0,
+                },
+                parts: Sides {
                     a: first,
                     b: second,
                 },
-                standing: Standing::first(solo),
-                watch: None,
-                shown_by_a: 0,
-                shown_by_b: 0,
-                image: InputImage::new(),
-                cuts,
+                derived: Derived {
+                    standing: Standing::first(solo),
+                    watch: None,
+                    past: Sides { a: 0, b: 0 },
+                    image: InputImage::new(),
+                    cuts,
+                },
             },
         })
     }
@@ -139,28 +145,28 @@ impl Pair {
     pub fn entries(&self) -> &Record
         ensures { result.now.entries ≡ self.now.world.log.entries }
     {
-        &self.state.log
+        &self.state.log.record
     }
 
     /// The showings, in their order.
     pub fn shown(&self) -> &Shown
         ensures { result.now.list ≡ self.now.world.log.shown }
     {
-        &self.state.shown
+        &self.state.log.shown
     }
 
     /// One past the last output that is marked.
     pub fn marked(&self) -> u32
         ensures { result ≡ self.now.world.log.marked }
     {
-        self.state.marked
+        self.state.log.marked
     }
 
     /// The side that is master.
     pub fn master(&self) -> Side
         ensures { result ≡ (standing_in self.now.setup self.now.world.log).master }
     {
-        self.state.standing.master
+        self.state.derived.standing.master
     }
 
     /// How the run has ended. None exactly where it goes on.
@@ -177,7 +183,8 @@ impl Pair {
     {
         match self.state.ended() {
             Some(Ended::Stop(_) | Ended::NoneLeft) => SystemState::Stop,
-            _ if self.state.standing.a && self.state.standing.b => SystemState::Redundant,
+            _ if self.state.derived.standing.running.a && self.state.derived.standing.running.b =>
+                SystemState::Redundant,
             _ => SystemState::Solo,
         }
     }
@@ -204,8 +211,8 @@ impl Pair {
         let ended = self.state.ended();
         prove!(spent || ended.is_some());
         (
-            self.state.log,
-            self.state.shown,
+            self.state.log.record,
+            self.state.log.shown,
             ended.unwrap_or(Ended::Spent),
         )
     }

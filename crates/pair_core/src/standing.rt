@@ -2,13 +2,13 @@
 ghost use Rattle.std.specs.Prelude.{◌≡◌};
 ghost use Rattle.pair_core.specs.Sides.{first_standing, runs, after_answer};
 
+use crate::sides::{Sides, other};
 use s7_base::{Answer, Side};
 
 /// The sides that run, and which of them is master.
 #[derive(Clone, Copy, Debug, PartialEq, Eq)]
 pub struct Standing {
-    pub a: bool,
-    pub b: bool,
+    pub running: Sides<bool>,
     pub master: Side,
 }
 
@@ -18,8 +18,7 @@ impl Standing {
         ensures { result ≡ first_standing solo }
     {
         Standing {
-            a: true,
-            b: !solo,
+            running: Sides { a: true, b: !solo },
             master: Side::A,
         }
     }
@@ -28,30 +27,22 @@ impl Standing {
     pub fn runs(&self, side: Side) -> bool
         ensures { result ≡ runs self.now side }
     {
-        match side {
-            Side::A => self.a,
-            Side::B => self.b,
-        }
+        self.running.of(side)
     }
 
     /// Who runs after an entry of this answer.
     pub fn after(self, answer: &Answer) -> Standing
         ensures { result ≡ after_answer self answer.now }
     {
+        let mut next = self;
         match answer {
-            Answer::Lost { side: Side::A, .. } => Standing {
-                a: false,
-                master: Side::B,
-                ..self
-            },
-            Answer::Lost { side: Side::B, .. } => Standing {
-                b: false,
-                master: Side::A,
-                ..self
-            },
-            Answer::Back { side: Side::A } => Standing { a: true, ..self },
-            Answer::Back { side: Side::B } => Standing { b: true, ..self },
-            _ => self,
+            Answer::Lost { side, .. } => {
+                next.running.put(*side, false);
+                next.master = other(*side);
+            }
+            Answer::Back { side } => next.running.put(*side, true),
+            _ => {}
         }
+        next
     }
 }

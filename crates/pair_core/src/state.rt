@@ -6,15 +6,16 @@ ghost use Rattle.pair_core.specs.Cuts.{is_cut, is_late};
 ghost use Rattle.pair_core.specs.Stops.{stop_by, stop_of};
 ghost use Rattle.pair_core.specs.Showings.{is_output_of};
 ghost use Rattle.pair_core.specs.Endings.{ends_by_output};
-ghost use Rattle.pair_core.specs.Turns.{plain_answer, answer_at};
-ghost use Rattle.pair_core.specs.World.{part_in, is_open, is_pending, has_shown, is_down, is_left, is_behind, end_by, ended, must_wait, waits_for_other, choose, acted, standing_in, with_entry};
+ghost use Rattle.pair_core.specs.Lawful.{plain_answer};
+ghost use Rattle.pair_core.specs.World.{is_open, is_pending, has_shown, is_down, is_left, is_behind, end_by, ended, must_wait, waits_for_other, choose, acted, standing_in, with_entry};
+ghost use Rattle.pair_core.specs.Sides.{of_side};
 ghost use Rattle.pair_core.specs.Kept.{setup_of, log_of, world_of, IsKept, IsImageBefore, CanAct};
 ghost use Rattle.pair_core.specs.Places.{IsAt};
 ghost use Rattle.pair_core.specs.Good.{GoodLog};
 
 use crate::cuts::Cuts;
-use crate::own::{Own, Parts};
-use crate::sides::{is_same, other};
+use crate::own::Own;
+use crate::sides::{Sides, is_same, other};
 use crate::standing::Standing;
 use crate::turns::Act;
 use crate::{Ended, Reason, Shown, Turn};
@@ -23,24 +24,41 @@ use plant_script::{InputImage, Script};
 use s7_base::{Answer, Ask, Blocks, Entry, Loss, Side, StopCode};
 use subsystem::Subsystem;
 
-/// All that the pair keeps: what it is made for, the record and the showings, one past the last output that is
-/// marked, what is kept of each side, and what follows from these: who runs, from which moment the cycle is monitored,
-/// one past the last entry that each side showed, the input image, and what the script made of the sides.
+/// What a pair is made for: the program of its CPUs, the plant script, and whether side A runs alone.
 #[derive(Debug, Drop)]
-pub struct State {
+pub struct Setup {
     pub program: Blocks,
     pub script: Script,
     pub solo: bool,
-    pub log: Record,
+}
+
+/// What both sides share: the record, the showings, and one past the last output that is marked.
+#[derive(Debug, Drop)]
+pub struct Log {
+    pub record: Record,
     pub shown: Shown,
     pub marked: u32,
-    pub parts: Parts,
+}
+
+/// What follows from the record, the showings and the script: who runs, from which moment the cycle is monitored, one past
+/// the last entry that each side showed, the input image, and what the script made of the sides.
+#[derive(Debug, Drop)]
+pub struct Derived {
     pub standing: Standing,
     pub watch: Option<u32>,
-    pub shown_by_a: u32,
-    pub shown_by_b: u32,
+    pub past: Sides<u32>,
     pub image: InputImage,
     pub cuts: Cuts,
+}
+
+/// All that the pair keeps: what it is made for, what both sides share, what is kept of each side, and what follows from
+/// these.
+#[derive(Debug, Drop)]
+pub struct State {
+    pub setup: Setup,
+    pub log: Log,
+    pub parts: Sides<Own>,
+    pub derived: Derived,
 }
 
 /// The code with which an entry stops the CPU.
@@ -64,7 +82,7 @@ fn is_output(ask: &Ask, answer: &Answer) -> bool
     )
 }
 
-/// The answer to a request that nothing bars, at moment k.
+/// The answer to a request that nothing prevents, at moment k.
 pub fn plain_answer(script: &Script, image: &mut InputImage, ask: &Ask, k: u32) -> Answer
     requires asked { IsAsked ask.now }
     requires before { IsImageBefore script.now k image.old }
@@ -86,17 +104,17 @@ pub fn plain_answer(script: &Script, image: &mut InputImage, ask: &Ask, k: u32) 
 impl State {
     /// The number of entries, which is the moment.
     pub fn len(&self) -> u32
-        ensures { result ≡ length self.now.log.entries }
+        ensures { result ≡ length self.now.log.record.entries }
     {
-        self.log.len()
+        self.log.record.len()
     }
 
     /// The code with which the last entry stops the CPU.
     #[tactic(auto, using(crate::proofs::Lasts::stop_last))]
     pub fn stop(&self) -> Option<StopCode>
-        ensures { result ≡ stop_of self.now.log.entries }
+        ensures { result ≡ stop_of self.now.log.record.entries }
     {
-        match self.log.as_slice().last() {
+        match self.log.record.as_slice().last() {
             Some(entry) => stop_by(&entry.request.ask, &entry.answer),
             None => None,
         }
@@ -105,9 +123,9 @@ impl State {
     /// Whether the last entry is an output.
     #[tactic(auto, using(crate::proofs::Lasts::output_last))]
     fn ends_by_output(&self) -> bool
-        ensures { result ≡ ends_by_output self.now.log.entries }
+        ensures { result ≡ ends_by_output self.now.log.record.entries }
     {
-        match self.log.as_slice().last() {
+        match self.log.record.as_slice().last() {
             Some(entry) => is_output(&entry.request.ask, &entry.answer),
             None => false,
         }
@@ -118,7 +136,7 @@ impl State {
     fn is_open(&self) -> bool
         ensures { result ≡ is_open (setup_of self.now) (log_of self.now) }
     {
-        self.len() < self.script.end() && self.stop().is_none()
+        self.len() < self.setup.script.end() && self.stop().is_none()
     }
 
     /// Whether the last entry is an output that is not marked.
@@ -126,7 +144,7 @@ impl State {
     pub fn is_pending(&self) -> bool
         ensures { result ≡ is_pending (log_of self.now) }
     {
-        self.ends_by_output() && self.marked < self.len()
+        self.ends_by_output() && self.log.marked < self.len()
     }
 
     /// Whether the side has shown the last entry.
@@ -135,29 +153,25 @@ impl State {
         requires { IsKept self.now }
         ensures { result ≡ has_shown (log_of self.now) side }
     {
-        let past = match side {
-            Side::A => self.shown_by_a,
-            Side::B => self.shown_by_b,
-        };
-        past == self.len()
+        self.derived.past.of(side) == self.len()
     }
 
     /// Whether the script stops the side now.
     #[tactic(auto, unfolding(crate::specs::Cuts::is_cut))]
     pub fn is_cut(&self, side: Side) -> bool
         requires { IsKept self.now }
-        ensures { result ≡ is_cut self.now.script side (length self.now.log.entries) }
+        ensures { result ≡ is_cut self.now.setup.script side (length self.now.log.record.entries) }
     {
-        self.cuts.soundness_of(side).is_failed()
+        self.derived.cuts.soundness_of(side).is_failed()
     }
 
     /// Whether the line that stops it says that it is late.
     #[tactic(auto, unfolding(crate::specs::Cuts::is_late))]
     fn is_late(&self, side: Side) -> bool
         requires { IsKept self.now }
-        ensures { result ≡ is_late self.now.script side (length self.now.log.entries) }
+        ensures { result ≡ is_late self.now.setup.script side (length self.now.log.record.entries) }
     {
-        self.cuts.soundness_of(side).is_failed_late()
+        self.derived.cuts.soundness_of(side).is_failed_late()
     }
 
     /// Whether a visit finds the side cut: a late master first shows its last output.
@@ -170,7 +184,7 @@ impl State {
             return false;
         }
         let shows_first = self.is_late(side)
-            && is_same(side, self.standing.master)
+            && is_same(side, self.derived.standing.master)
             && self.is_pending()
             && !self.has_shown(side);
         !shows_first
@@ -181,14 +195,14 @@ impl State {
         requires { IsKept self.now }
         ensures { result ≡ is_left (setup_of self.now) (log_of self.now) side }
     {
-        self.standing.runs(side) && !self.is_down(side)
+        self.derived.standing.runs(side) && !self.is_down(side)
     }
 
     /// Whether the side has not taken all entries.
     fn is_late_with_entries(&self, side: Side) -> bool
-        ensures { result ≡ nat_lt (part_in self.now.parts side).place (length self.now.log.entries) }
+        ensures { result ≡ nat_lt (of_side self.now.parts side).place (length self.now.log.record.entries) }
     {
-        self.parts.get(side).place < self.len()
+        self.parts.of(side).place < self.len()
     }
 
     /// Whether the side runs and has not taken all entries.
@@ -196,7 +210,7 @@ impl State {
         requires { IsKept self.now }
         ensures { result ≡ is_behind (setup_of self.now) (world_of self.now) side }
     {
-        self.standing.runs(side) && self.is_late_with_entries(side)
+        self.derived.standing.runs(side) && self.is_late_with_entries(side)
     }
 
     /// How the run has ended, if it has.
@@ -227,7 +241,7 @@ impl State {
         requires { IsKept self.now }
         ensures { result ≡ (if must_wait (setup_of self.now) (log_of self.now) side then Act.Unmarked else (if has_shown (log_of self.now) side then Act.Mark else Act.Show)) }
     {
-        let master = self.standing.master;
+        let master = self.derived.standing.master;
         if !is_same(side, master) && !self.is_down(master) {
             return Act::Unmarked;
         }
@@ -247,7 +261,7 @@ impl State {
         if let Some(ended) = self.ended() {
             return Act::Over(ended);
         }
-        if self.is_down(side) || !self.standing.runs(side) {
+        if self.is_down(side) || !self.derived.standing.runs(side) {
             return Act::Dead;
         }
         if self.is_late_with_entries(side) {

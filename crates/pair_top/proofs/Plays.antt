@@ -5,7 +5,8 @@ use Rattle.std.specs.List.{flat_map}
 use Rattle.std.proofs.lemmas.List.{append-nil}
 use Rattle.s7_events.specs.declared.entry.Side.{Side}
 use Rattle.s7_events.specs.Optional.{◌>>=◌}
-use Rattle.pair_core.specs.World.{Setup, World, step, play}
+use Rattle.pair_core.specs.Setup.{Setup}
+use Rattle.pair_core.specs.World.{World, step, play}
 use Rattle.pair_core.specs.Turns.{is_over}
 use Rattle.pair_top.specs.Pattern.{most_visits, visits_in as visits_count, side_of, sides_from, Repeated, repeated, visits_of_part, part_of, pieces, parts_of, visits_by, visits_of}
 use Rattle.pair_top.specs.WordsView.{visits_in}

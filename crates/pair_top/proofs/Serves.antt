@@ -9,7 +9,8 @@ use Rattle.plant_script.specs.Plan.{Plan}
 use Rattle.pair_core.specs.Tail.{Tail}
 use Rattle.pair_core.specs.CpuTail.{tail_of}
 use Rattle.pair_core.specs.Text.{HasTail}
-use Rattle.pair_core.specs.World.{Setup, World, first_world, play}
+use Rattle.pair_core.specs.Setup.{Setup}
+use Rattle.pair_core.specs.World.{World, first_world, play}
 use Rattle.pair_top.specs.Reading.{File}
 use Rattle.pair_top.specs.Orders.{Manner, is_alone, visits_for}
 use Rattle.pair_top.specs.Playing.{of_side}

@@ -13,7 +13,8 @@ use Rattle.pair_core.specs.Played.{answers_of}
 use Rattle.pair_core.specs.CpuTail.{tail_of, tail_of_state}
 use Rattle.pair_core.specs.Tail.{Tail}
 use Rattle.pair_core.specs.Places.{StandsAfter, IsAt}
-use Rattle.pair_core.specs.World.{Setup, World, Game, part, play}
+use Rattle.pair_core.specs.Setup.{Setup}
+use Rattle.pair_core.specs.World.{World, Game, part, play}
 
 -- with these answers the CPU comes to a state that this tail shows: it waits there at its next request, or has stopped there
 abbrev pub ComesTo : Program → List Answer → Tail → Type 0

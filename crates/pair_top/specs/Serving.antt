@@ -14,7 +14,8 @@ use Rattle.pair_top.specs.declared.faults.Fault.TheVariants.{Usage, FileFault, T
 use Rattle.plant_script.specs.Plan.{Plan}
 use Rattle.subsystem.specs.Part.{Part, IsNew, IsOpen, first_life}
 use Rattle.pair_core.specs.Played.{IsRun, IsSideOf, answers_of}
-use Rattle.pair_core.specs.World.{Setup, World, first_world, play}
+use Rattle.pair_core.specs.Setup.{Setup}
+use Rattle.pair_core.specs.World.{World, first_world, play}
 use Rattle.pair_core.specs.Finished.{ended_by}
 use Rattle.pair_top.specs.Reading.{limit, File, IsSteady, HasFailed, IsTooLong, IsAccepted, IsPlanned, IsNoSource, IsNoScript, IsNotPlayed, played_script}
 use Rattle.stl_lex.specs.declared.fault.LoadFault.{LoadFault}

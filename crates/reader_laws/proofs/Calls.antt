@@ -1,7 +1,7 @@
 -- Calls, labels and literals that are spelled so are read.
 use Rattle.std.proofs.Common.{◌≡◌, ℕ, List, ◌∷◌, refl, true, false, ◌⊎◌, inl, inr}
 use Rattle.std.specs.Prelude.{Ok, Some, codes}
-use Rattle.s7_base.specs.declared.operands.OperandArea.TheVariants as areas
+use Rattle.instruction_set.specs.declared.operands.OperandArea.TheVariants as areas
 use Rattle.s7_base.specs.Operands.{is_data_number}
 use Rattle.stl_lex.specs.declared.piece.TokenKind.{TokenKind}
 use Rattle.stl_lex.specs.declared.piece.TokenKind.TheVariants as kinds

@@ -1,6 +1,6 @@
 -- What is spelled so is read: operands that begin with a word of the table, whatever follows them.
 use Rattle.std.specs.Prelude.{◌≡◌, ℕ, List, ◌∷◌, ◌++◌, ◌⊎◌, true, false, Some, Ok, codes}
-use Rattle.s7_base.specs.declared.operands.OperandArea.TheVariants as areas
+use Rattle.instruction_set.specs.declared.operands.OperandArea.TheVariants as areas
 use Rattle.s7_base.specs.Operands.{is_data_number}
 use Rattle.stl_lex.specs.declared.piece.TokenKind.TheVariants as kinds
 use Rattle.stl_lex.specs.Bytes.{letters_of}

@@ -1,6 +1,6 @@
 -- What an answer's text tells.
-use Rattle.std.proofs.Common.{◌≡◌, ◌∙◌, ℕ, ◌+◌, ◌^◌, ◌<◌, Bool, true, false, List, ◌∷◌, ◌++◌, length, refl, ap, sym, subst, arith, inl}
-use Rattle.std.specs.Prelude.{Option, ◌&&◌, MatchBool, get_or, codes}
+use Rattle.std.proofs.Common.{◌≡◌, ◌∙◌, ℕ, ◌+◌, ◌^◌, ◌<◌, List, ◌∷◌, ◌++◌, length, refl, ap, sym, arith, inl}
+use Rattle.std.specs.Prelude.{get_or, codes}
 use Rattle.std.specs.Fmt.{decimal}
 use Rattle.std.proofs.lemmas.List.{append_assoc, append_cancel_left}
 use Rattle.std.proofs.lemmas.List.FromFn.{length-map-range_with_len}
@@ -17,13 +17,12 @@ use Rattle.s7_events.specs.declared.entry.Answer.{Answer}
 use Rattle.s7_events.specs.declared.entry.Answer.TheVariants as answers
 use Rattle.plant_script.specs.Plan.{Plan}
 use Rattle.plant_script.specs.InputImage.{image_byte, input_image}
-use Rattle.pair_core.specs.declared.standing.Standing.{Standing}
-use Rattle.pair_core.specs.Cuts.{is_cut}
-use Rattle.s7_events.specs.declared.entry.StopCode.TheVariants as stops
-use Rattle.pair_core.specs.Monitor.{is_overdue}
-use Rattle.pair_core.specs.Lawful.{IsPlainAnswer, IsMonitoredAnswer, IsLawfulAnswer}
+use Rattle.pair_core.specs.Setup.{Setup}
+use Rattle.pair_core.specs.Ledger.{Ledger}
+use Rattle.pair_core.specs.Lawful.{MayAnswer}
 use Rattle.pair_core.specs.Image.{hex, image}
 use Rattle.pair_core.specs.EntryText.{side_word, stop_word, lost_text, answer_text}
+use Rattle.pair_core.proofs.Answers.{answer_any, plain_any}
 use Rattle.trace_laws.proofs.Splits.{Free, IsMark, line_feed, free_by, free_word, free_append, split_at}
 use Rattle.trace_laws.proofs.Numbers.{decimal_free, hex_one, hex_free}
 use Rattle.trace_laws.proofs.Images.{image_one, image_free}
@@ -188,30 +187,8 @@ image_told : (plan : Plan) (k : ℕ) → length (input_image plan k) ≡ 64
 unfolding input_image
 image_told plan k = length-map-range_with_len (image_byte plan k) 0 64
 
-told_as : (k : ℕ) (a b : Answer) → a ≡ b → IsTold k b → IsTold k a
-told_as k a b is told = subst (IsTold k) (sym is) told
-
-plain_told : (plan : Plan) (k : ℕ) (ask : Ask) (a : Answer) → IsPlainAnswer plan k ask a → IsTold k a
-plain_told plan k (asks.Outputs bytes) a is = told_as k a answers.Done is tt
-plain_told plan k asks.Inputs a is = told_as k a (answers.Image (input_image plan k)) is (image_told plan k)
-plain_told plan k asks.Cycle a is = told_as k a answers.Go is tt
-plain_told plan k asks.Now a is = told_as k a (answers.Now k) is refl
-plain_told plan k asks.Tick a is = told_as k a answers.Done is tt
-plain_told plan k asks.Retrigger a is = told_as k a answers.Done is tt
-plain_told plan k (asks.Reply value) a is = told_as k a answers.Done is tt
-plain_told plan k (asks.Stop code) a is = told_as k a answers.Done is tt
-plain_told plan k (asks.ReadP addr width) a is = absurd is
-plain_told plan k (asks.WriteP addr width value) a is = absurd is
-
-by_test : (t : Bool) (k : ℕ) (a lost : Answer) (P : Type 0) → IsTold k lost → (P → IsTold k a) → MatchBool t (a ≡ lost) P → IsTold k a
-by_test true k a lost P told left is = told_as k a lost is told
-by_test false k a lost P told left is = left is
-
-monitored_told : (plan : Plan) (watch : Option ℕ) (k : ℕ) (ask : Ask) (a : Answer) → IsMonitoredAnswer plan watch k ask a → IsTold k a
-monitored_told plan watch k ask a is = by_test (is_overdue watch k) k a (answers.CpuStop stops.Cycle) (IsPlainAnswer plan k ask a) tt (plain_told plan k ask a) is
-
-pub lawful_told : (plan : Plan) (st : Standing) (watch : Option ℕ) (k : ℕ) (ask : Ask) (a : Answer) → IsLawfulAnswer plan st watch k ask a → IsTold k a
-lawful_told plan st watch k ask a is =
-    by_test (st.a && st.b && is_cut plan A k) k a (answers.Lost A Failed)
-    (MatchBool (st.a && st.b && is_cut plan B k) (a ≡ answers.Lost B Failed) (IsMonitoredAnswer plan watch k ask a)) tt
-    (by_test (st.a && st.b && is_cut plan B k) k a (answers.Lost B Failed) (IsMonitoredAnswer plan watch k ask a) tt (monitored_told plan watch k ask a)) is
+-- a lawful answer is told
+pub lawful_told : (p : Setup) (g : Ledger) (ask : Ask) (a : Answer) → MayAnswer p g ask a → IsTold g.moment a
+lawful_told p g ask a may =
+    answer_any (IsTold g.moment) p g ask a may (λ t. tt) tt
+    (λ x is. plain_any (IsTold g.moment) p.plan g.moment ask x is tt (image_told p.plan g.moment) tt refl)

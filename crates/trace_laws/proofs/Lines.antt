@@ -1,22 +1,17 @@
 -- What the line of an entry tells, behind its number.
 use Rattle.std.proofs.Common.{◌≡◌, ◌∙◌, ℕ, ◌+◌, List, [], ◌∷◌, ◌++◌, refl, ap, sym, subst, arith}
-use Rattle.std.specs.Prelude.{Option, Some, codes}
+use Rattle.std.specs.Prelude.{Some, codes}
 use Rattle.std.specs.Fmt.{decimal}
 use Rattle.std.proofs.lemmas.List.{append_assoc, append_cancel_left, same_from_push}
 use Rattle.std.proofs.lemmas.List.Elements.{All-head, All-tail}
-use Rattle.s7_events.specs.declared.entry.StopCode.{StopCode}
 use Rattle.s7_events.specs.declared.entry.Ask.{Ask}
 use Rattle.s7_events.specs.declared.entry.Answer.{Answer}
 use Rattle.s7_events.specs.declared.entry.Request.{Request}
 use Rattle.s7_events.specs.declared.entry.Entry.{Entry}
-use Rattle.s7_base.specs.Blocks.{Program}
 use Rattle.mc_machine.specs.Meaning.{std, next_of, asked_after}
-use Rattle.plant_script.specs.Plan.{Plan}
-use Rattle.pair_core.specs.declared.standing.Standing.{Standing}
-use Rattle.pair_core.specs.Sides.{after}
-use Rattle.pair_core.specs.Stops.{stop_by}
+use Rattle.pair_core.specs.Setup.{Setup}
+use Rattle.pair_core.specs.Ledger.{Ledger, after}
 use Rattle.pair_core.specs.Lawful.{LawfulFrom}
-use Rattle.pair_core.specs.Monitor.{watch_by}
 use Rattle.pair_core.specs.Played.{requests_of, answers_of}
 use Rattle.pair_core.specs.EntryText.{ask_text, answer_text}
 use Rattle.pair_core.proofs.Prefixes.{same_entry}
@@ -53,25 +48,23 @@ by_request k x y told told' requests r r' e =
     (same_entry x y requests (answer_one k x.answer y.answer told told' parts.0), parts.1)
 
 -- the requests of one program are the same where the answers before them are
-pub by_program : (program : Program) (before : List Answer) (k : ℕ) (plan plan' : Plan) (st st' : Standing) (stop stop' : Option StopCode) (watch watch' : Option ℕ) (xs ys : List Entry)
-    → requests_of xs ≡ asked_after program before (answers_of xs) → LawfulFrom plan st stop watch k xs
-    → requests_of ys ≡ asked_after program before (answers_of ys) → LawfulFrom plan' st' stop' watch' k ys → Tell xs ys
-by_program program before k plan plan' st st' stop stop' watch watch' [] ys ax lx ay ly = tt
-by_program program before k plan plan' st st' stop stop' watch watch' (x ∷ xs) [] ax lx ay ly = tt
-by_program program before k plan plan' st st' stop stop' watch watch' (x ∷ xs) (y ∷ ys) ax lx ay ly =
-    let left : Some x.request ∷ requests_of xs ≡ next_of (std program before) ∷ asked_after program (before ++ x.answer ∷ []) (answers_of xs) = ax in
-    let right : Some y.request ∷ requests_of ys ≡ next_of (std program before) ∷ asked_after program (before ++ y.answer ∷ []) (answers_of ys) = ay in
+pub by_program : (before : List Answer) (p q : Setup) (g h : Ledger) (xs ys : List Entry) → p.program ≡ q.program → g.moment ≡ h.moment
+    → requests_of xs ≡ asked_after p.program before (answers_of xs) → LawfulFrom p g xs
+    → requests_of ys ≡ asked_after q.program before (answers_of ys) → LawfulFrom q h ys → Tell xs ys
+by_program before p q g h [] ys same here ax lx ay ly = tt
+by_program before p q g h (x ∷ xs) [] same here ax lx ay ly = tt
+by_program before p q g h (x ∷ xs) (y ∷ ys) same here ax lx ay ly =
+    let left : Some x.request ∷ requests_of xs ≡ next_of (std p.program before) ∷ asked_after p.program (before ++ x.answer ∷ []) (answers_of xs) = ax in
+    let right : Some y.request ∷ requests_of ys ≡ next_of (std q.program before) ∷ asked_after q.program (before ++ y.answer ∷ []) (answers_of ys) = ay in
     let requests : x.request ≡ y.request = cc in
-    let told = lawful_told plan st watch k x.request.ask x.answer lx.0.answer in
-    let told' = lawful_told plan' st' watch' k y.request.ask y.answer ly.0.answer in (
-      by_request k x y told told' requests,
-      λ same.
-          let answers : y.answer ≡ x.answer = ap (λ (e : Entry). e.answer) (sym same) in
-          let behind : requests_of ys ≡ asked_after program (before ++ x.answer ∷ []) (answers_of ys) =
-          subst (λ (a : Answer). requests_of ys ≡ asked_after program (before ++ a ∷ []) (answers_of ys)) answers (cc right) in
-          by_program program (before ++ x.answer ∷ []) (k + 1) plan plan' (after st x) (after st' y) (stop_by x.request.ask x.answer) (stop_by y.request.ask y.answer)
-          (watch_by watch k x.request.ask x.answer) (watch_by watch' k y.request.ask y.answer) xs ys
-          (cc left) lx.1 behind ly.1,
+    let told = lawful_told p g x.request.ask x.answer lx.0.answer in
+    let told' : IsTold g.moment y.answer = subst (λ k. IsTold k y.answer) (sym here) (lawful_told q h y.request.ask y.answer ly.0.answer) in (
+      by_request g.moment x y told told' requests,
+      λ one.
+          let answers : y.answer ≡ x.answer = ap (λ (e : Entry). e.answer) (sym one) in
+          let behind : requests_of ys ≡ asked_after q.program (before ++ x.answer ∷ []) (answers_of ys) =
+          subst (λ (a : Answer). requests_of ys ≡ asked_after q.program (before ++ a ∷ []) (answers_of ys)) answers (cc right) in
+          by_program (before ++ x.answer ∷ []) p q (after p g x) (after q h y) xs ys same (ap (λ k. k + 1) here) (cc left) lx.1 behind ly.1,
     )
 
 -- requests in their ranges are told by their texts --
@@ -102,15 +95,14 @@ request_one a b r s ra rb e =
 by_range_entry : (k : ℕ) (x y : Entry) → IsTold k x.answer → IsTold k y.answer → IsRequest x.request → IsRequest y.request → TellEntries x y
 by_range_entry k x y told told' rx ry r r' e = by_request k x y told told' (request_one x.request y.request _ _ rx ry e) r r' e
 
-pub by_range : (k : ℕ) (plan plan' : Plan) (st st' : Standing) (stop stop' : Option StopCode) (watch watch' : Option ℕ) (xs ys : List Entry)
-    → AreRequests xs → LawfulFrom plan st stop watch k xs → AreRequests ys → LawfulFrom plan' st' stop' watch' k ys → Tell xs ys
-by_range k plan plan' st st' stop stop' watch watch' [] ys rx lx ry ly = tt
-by_range k plan plan' st st' stop stop' watch watch' (x ∷ xs) [] rx lx ry ly = tt
-by_range k plan plan' st st' stop stop' watch watch' (x ∷ xs) (y ∷ ys) rx lx ry ly =
-    let told = lawful_told plan st watch k x.request.ask x.answer lx.0.answer in
-    let told' = lawful_told plan' st' watch' k y.request.ask y.answer ly.0.answer in (
-      by_range_entry k x y told told' (All-head (λ e. IsRequest e.request) x xs rx) (All-head (λ e. IsRequest e.request) y ys ry),
-      λ same. by_range (k + 1) plan plan' (after st x) (after st' y) (stop_by x.request.ask x.answer) (stop_by y.request.ask y.answer)
-          (watch_by watch k x.request.ask x.answer) (watch_by watch' k y.request.ask y.answer) xs ys
+pub by_range : (p q : Setup) (g h : Ledger) (xs ys : List Entry) → g.moment ≡ h.moment
+    → AreRequests xs → LawfulFrom p g xs → AreRequests ys → LawfulFrom q h ys → Tell xs ys
+by_range p q g h [] ys here rx lx ry ly = tt
+by_range p q g h (x ∷ xs) [] here rx lx ry ly = tt
+by_range p q g h (x ∷ xs) (y ∷ ys) here rx lx ry ly =
+    let told = lawful_told p g x.request.ask x.answer lx.0.answer in
+    let told' : IsTold g.moment y.answer = subst (λ k. IsTold k y.answer) (sym here) (lawful_told q h y.request.ask y.answer ly.0.answer) in (
+      by_range_entry g.moment x y told told' (All-head (λ e. IsRequest e.request) x xs rx) (All-head (λ e. IsRequest e.request) y ys ry),
+      λ one. by_range p q (after p g x) (after q h y) xs ys (ap (λ k. k + 1) here)
           (All-tail (λ e. IsRequest e.request) x xs rx) lx.1 (All-tail (λ e. IsRequest e.request) y ys ry) ly.1,
     )

@@ -5,12 +5,12 @@ use mathlib.Core.List.{IsPrefix}
 use Rattle.std.proofs.lemmas.Bool.{cond_both, cond-true, cond-false, eq-eqb, ne_eqb, cases_eq}
 use Rattle.s7_events.specs.declared.entry.Side.{Side}
 use Rattle.s7_events.specs.declared.entry.Entry.{Entry}
-use Rattle.plant_script.specs.Plan.{Plan}
-use Rattle.pair_core.specs.declared.standing.Standing.{Standing}
+use Rattle.pair_core.specs.Setup.{Setup}
+use Rattle.pair_core.specs.Ledger.{Ledger, first_ledger, after}
 use Rattle.pair_core.specs.declared.endings.Ended.{Ended}
 use Rattle.pair_core.specs.declared.endings.Ended.TheVariants.{End, Stop, NoneLeft, Spent, NotPlayed}
 use Rattle.pair_core.specs.Cuts.{is_cut, is_late}
-use Rattle.pair_core.specs.Sides.{other_side, runs, first_standing, after}
+use Rattle.pair_core.specs.Sides.{other_side, runs}
 use Rattle.pair_core.specs.Showings.{is_output, showers_by, showers, tagged, showings_of, shown_from, shown_of}
 use Rattle.pair_core.specs.Endings.{IsShown}
 use Rattle.pair_core.specs.Text.{behind_showing}
@@ -63,26 +63,29 @@ tagged_from k [] [] later = tt
 tagged_from k [] (x ∷ xs) later = omega arith
 tagged_from k (s ∷ sides) xs later = omega arith
 
-shown_later : (plan : Plan) (st : Standing) (k : ℕ) (es : List Entry) → AreFrom k (shown_from plan st k es)
-shown_later plan st k [] = tt
-shown_later plan st k (e ∷ es) =
-    let later = shown_later plan (after st e) (k + 1) es in
-    let rest = shown_from plan (after st e) (k + 1) es in
-    cond_both (is_output e) (tagged k (showers plan (after st e) (k + 1))) [] (λ l. AreFrom k (l ++ rest))
-    (λ _. tagged_from k (showers plan (after st e) (k + 1)) rest later) (λ _. tagged_from k [] rest later)
+shown_later : (p : Setup) (g : Ledger) (es : List Entry) → AreFrom g.moment (shown_from p g es)
+shown_later p g [] = tt
+shown_later p g (e ∷ es) =
+    let k = g.moment in
+    let next = (after p g e).standing in
+    let later = shown_later p (after p g e) es in
+    let rest = shown_from p (after p g e) es in
+    cond_both (is_output e) (tagged k (showers p.plan next (k + 1))) [] (λ l. AreFrom k (l ++ rest))
+    (λ _. tagged_from k (showers p.plan next (k + 1)) rest later) (λ _. tagged_from k [] rest later)
 
 -- all showings of a record have their lines
-printed_all : (plan : Plan) (st : Standing) (k : ℕ) (es : List Entry) → ArePrinted k es (shown_from plan st k es)
-printed_all plan st k [] = refl
-printed_all plan st k (e ∷ es) =
-    let next = after st e in
-    let rest = shown_from plan next (k + 1) es in
-    let later = shown_later plan next (k + 1) es in
-    let left : behind_both k (showings_of plan next k e ++ rest) ≡ rest =
-    cond_both (is_output e) (tagged k (showers plan next (k + 1))) [] (λ l. behind_both k (l ++ rest) ≡ rest)
-    (λ _. behind_two k (showers plan next (k + 1)) rest (few_showers next.master (is_cut plan next.master (k + 1)) (is_late plan next.master (k + 1))
-    (runs next (other_side next.master) && not (is_cut plan (other_side next.master) (k + 1)))) later) (λ _. behind_two k [] rest (omega arith) later) in
-    subst (ArePrinted (k + 1) es) (sym left) (printed_all plan next (k + 1) es)
+printed_all : (p : Setup) (g : Ledger) (es : List Entry) → ArePrinted g.moment es (shown_from p g es)
+printed_all p g [] = refl
+printed_all p g (e ∷ es) =
+    let k = g.moment in
+    let next = (after p g e).standing in
+    let rest = shown_from p (after p g e) es in
+    let later = shown_later p (after p g e) es in
+    let left : behind_both k (showings_of p.plan next k e ++ rest) ≡ rest =
+    cond_both (is_output e) (tagged k (showers p.plan next (k + 1))) [] (λ l. behind_both k (l ++ rest) ≡ rest)
+    (λ _. behind_two k (showers p.plan next (k + 1)) rest (few_showers next.master (is_cut p.plan next.master (k + 1)) (is_late p.plan next.master (k + 1))
+    (runs next (other_side next.master) && not (is_cut p.plan (other_side next.master) (k + 1)))) later) (λ _. behind_two k [] rest (omega arith) later) in
+    subst (ArePrinted (k + 1) es) (sym left) (printed_all p (after p g e) es)
 
 nothing_before : (xs : List (ℕ × Side)) → IsPrefix xs [] → xs ≡ []
 nothing_before [] h = refl
@@ -112,13 +115,13 @@ printed_prefix k (e ∷ es) xs ys h printed =
     printed_prefix (k + 1) es (behind_both k xs) (behind_both k ys)
     (behind_prefix k (behind_showing k xs) (behind_showing k ys) (behind_prefix k xs ys h)) printed
 
-printed_as : (plan : Plan) (solo : Bool) (es : List Entry) (shown : List (ℕ × Side)) → shown ≡ shown_of plan solo es → ArePrinted 0 es shown
-printed_as plan solo es shown is = subst (ArePrinted 0 es) (sym is) (printed_all plan (first_standing solo) 0 es)
+printed_as : (p : Setup) (es : List Entry) (shown : List (ℕ × Side)) → shown ≡ shown_of p es → ArePrinted 0 es shown
+printed_as p es shown is = subst (ArePrinted 0 es) (sym is) (printed_all p (first_ledger p) es)
 
 -- so have those of a run
-pub printed_run : (plan : Plan) (solo : Bool) (es : List Entry) (ended : Ended) (shown : List (ℕ × Side)) → IsShown plan solo es ended shown → ArePrinted 0 es shown
-printed_run plan solo es End shown is = printed_as plan solo es shown is
-printed_run plan solo es (Stop code) shown is = printed_as plan solo es shown is
-printed_run plan solo es NoneLeft shown is = printed_as plan solo es shown is
-printed_run plan solo es Spent shown is = printed_prefix 0 es shown (shown_of plan solo es) is.1 (printed_all plan (first_standing solo) 0 es)
-printed_run plan solo es NotPlayed shown is = absurd is
+pub printed_run : (p : Setup) (es : List Entry) (ended : Ended) (shown : List (ℕ × Side)) → IsShown p es ended shown → ArePrinted 0 es shown
+printed_run p es End shown is = printed_as p es shown is
+printed_run p es (Stop code) shown is = printed_as p es shown is
+printed_run p es NoneLeft shown is = printed_as p es shown is
+printed_run p es Spent shown is = printed_prefix 0 es shown (shown_of p es) is.1 (printed_all p (first_ledger p) es)
+printed_run p es NotPlayed shown is = absurd is

@@ -1,17 +1,17 @@
 -- The whole text of a run, entry by entry.
-use Rattle.std.proofs.Common.{◌≡◌, ◌∙◌, ℕ, ◌+◌, ◌<◌, ◌≤◌, Bool, List, [], ◌∷◌, ◌++◌, length, refl, ap, sym, arith}
-use Rattle.std.specs.Prelude.{None, get_or, codes}
+use Rattle.std.proofs.Common.{◌≡◌, ◌∙◌, ℕ, ◌+◌, ◌<◌, ◌≤◌, List, [], ◌∷◌, ◌++◌, length, refl, ap, sym, arith}
+use Rattle.std.specs.Prelude.{get_or, codes}
 use Rattle.std.specs.Fmt.{decimal}
 use Rattle.std.proofs.lemmas.List.{append_assoc, append_cancel_left}
 use Rattle.s7_events.specs.declared.entry.Side.{Side}
 use Rattle.s7_events.specs.declared.entry.Entry.{Entry}
 use Rattle.s7_base.specs.Blocks.{Program}
-use Rattle.plant_script.specs.Plan.{Plan}
 use Rattle.pair_core.specs.declared.endings.Mode.{Mode}
 use Rattle.pair_core.specs.declared.endings.Mode.TheVariants.{Solo, Pair, TailOnly}
 use Rattle.pair_core.specs.declared.endings.Ended.{Ended}
 use Rattle.pair_core.specs.declared.endings.Ended.TheVariants.{End, Stop, NoneLeft, Spent, NotPlayed}
-use Rattle.pair_core.specs.Sides.{first_standing}
+use Rattle.pair_core.specs.Setup.{Setup, made_for}
+use Rattle.pair_core.specs.Ledger.{first_ledger}
 use Rattle.pair_core.specs.Endings.{IsEnded}
 use Rattle.pair_core.specs.EntryText.{ask_text, answer_text}
 use Rattle.pair_core.specs.Tail.{Tail}
@@ -110,29 +110,29 @@ last_of NoneLeft tail count played = record { high = omega arith; next = record 
 last_of Spent tail count played = record { high = omega arith; next = record { no_again = λ e. omega (arith, e); no_show = λ e. refl } }
 last_of NotPlayed tail count played = absurd (played refl)
 
-was_played : (plan : Plan) (solo : Bool) (es : List Entry) (shown : List (ℕ × Side)) (ended : Ended) → IsEnded plan solo es shown ended → ended ≡ NotPlayed → ⊥
-was_played plan solo es shown End is e = cc
-was_played plan solo es shown (Stop code) is e = cc
-was_played plan solo es shown NoneLeft is e = cc
-was_played plan solo es shown Spent is e = cc
-was_played plan solo es shown NotPlayed is e = is
+was_played : (p : Setup) (es : List Entry) (shown : List (ℕ × Side)) (ended : Ended) → IsEnded p es shown ended → ended ≡ NotPlayed → ⊥
+was_played p es shown End is e = cc
+was_played p es shown (Stop code) is e = cc
+was_played p es shown NoneLeft is e = cc
+was_played p es shown Spent is e = cc
+was_played p es shown NotPlayed is e = is
 
--- the end follows from the record and the first letter behind it
-end_one : (plan plan' : Plan) (solo solo' : Bool) (es : List Entry) (shown : List (ℕ × Side)) (ended ended' : Ended) (tail tail' : Tail) (count count' : ℕ)
-    → IsEnded plan solo es shown ended → IsEnded plan' solo' es shown ended'
+-- the end follows from the record and the first letter after it
+end_one : (p q : Setup) (es : List Entry) (shown : List (ℕ × Side)) (ended ended' : Ended) (tail tail' : Tail) (count count' : ℕ)
+    → IsEnded p es shown ended → IsEnded q es shown ended'
     → tail_text ended tail ++ last_line ended count ≡ tail_text ended' tail' ++ last_line ended' count' → ended ≡ ended'
-end_one plan plan' solo solo' es shown End End tail tail' count count' is is' e = refl
-end_one plan plan' solo solo' es shown NoneLeft NoneLeft tail tail' count count' is is' e = refl
-end_one plan plan' solo solo' es shown Spent Spent tail tail' count count' is is' e = refl
-end_one plan plan' solo solo' es shown (Stop code) (Stop code') tail tail' count count' is is' e = cc
-end_one plan plan' solo solo' es shown NotPlayed ended' tail tail' count count' is is' e = absurd is
-end_one plan plan' solo solo' es shown ended NotPlayed tail tail' count count' is is' e = absurd is'
-end_one plan plan' solo solo' es shown End (Stop code) tail tail' count count' is is' e = let none = is.0 in cc
-end_one plan plan' solo solo' es shown (Stop code) End tail tail' count count' is is' e = let none = is'.0 in cc
-end_one plan plan' solo solo' es shown End ended' tail tail' count count' is is' e = absurd (omega (arith, ap (λ (t : List ℕ). get_or t 0 0) e))
-end_one plan plan' solo solo' es shown (Stop code) ended' tail tail' count count' is is' e = absurd (omega (arith, ap (λ (t : List ℕ). get_or t 0 0) e))
-end_one plan plan' solo solo' es shown NoneLeft ended' tail tail' count count' is is' e = absurd (omega (arith, ap (λ (t : List ℕ). get_or t 0 0) e))
-end_one plan plan' solo solo' es shown Spent ended' tail tail' count count' is is' e = absurd (omega (arith, ap (λ (t : List ℕ). get_or t 0 0) e))
+end_one p q es shown End End tail tail' count count' is is' e = refl
+end_one p q es shown NoneLeft NoneLeft tail tail' count count' is is' e = refl
+end_one p q es shown Spent Spent tail tail' count count' is is' e = refl
+end_one p q es shown (Stop code) (Stop code') tail tail' count count' is is' e = cc
+end_one p q es shown NotPlayed ended' tail tail' count count' is is' e = absurd is
+end_one p q es shown ended NotPlayed tail tail' count count' is is' e = absurd is'
+end_one p q es shown End (Stop code) tail tail' count count' is is' e = let none = is.0 in cc
+end_one p q es shown (Stop code) End tail tail' count count' is is' e = let none = is'.0 in cc
+end_one p q es shown End ended' tail tail' count count' is is' e = absurd (omega (arith, ap (λ (t : List ℕ). get_or t 0 0) e))
+end_one p q es shown (Stop code) ended' tail tail' count count' is is' e = absurd (omega (arith, ap (λ (t : List ℕ). get_or t 0 0) e))
+end_one p q es shown NoneLeft ended' tail tail' count count' is is' e = absurd (omega (arith, ap (λ (t : List ℕ). get_or t 0 0) e))
+end_one p q es shown Spent ended' tail tail' count count' is is' e = absurd (omega (arith, ap (λ (t : List ℕ). get_or t 0 0) e))
 
 -- behind the first line
 behind_title : (mode mode' : Mode) (es es' : List Entry) (shown shown' : List (ℕ × Side)) (r r' : List ℕ) → HasRecord mode → HasRecord mode'
@@ -148,31 +148,33 @@ behind_title mode TailOnly es es' shown shown' r r' h h' e = absurd h'
 by_lines : (program other : Program) (first second : Run) → IsWritten program first → IsWritten other second → Tell first.entries second.entries
     → text_of first ≡ text_of second → AreSame first second
 by_lines program other first second one two tell e =
-    let left = printed_run first.plan first.solo first.entries first.ended first.showings one.run.shown in
-    let right = printed_run second.plan second.solo second.entries second.ended second.showings two.run.shown in
-    let ends = last_of first.ended first.tail (length first.entries) (was_played first.plan first.solo first.entries first.showings first.ended one.run.ended) in
-    let ends' = last_of second.ended second.tail (length second.entries) (was_played second.plan second.solo second.entries second.showings second.ended two.run.ended) in
+    let p = made_for program first.plan first.solo in
+    let q = made_for other second.plan second.solo in
+    let left = printed_run p first.entries first.ended first.showings one.run.shown in
+    let right = printed_run q second.entries second.ended second.showings two.run.shown in
+    let ends = last_of first.ended first.tail (length first.entries) (was_played p first.entries first.showings first.ended one.run.ended) in
+    let ends' = last_of second.ended second.tail (length second.entries) (was_played q second.entries second.showings second.ended two.run.ended) in
     let same = both_from 0 first.entries second.entries first.showings second.showings _ _ tell left right ends ends'
     (behind_title first.mode second.mode first.entries second.entries first.showings second.showings _ _ one.has_record two.has_record e) in
-    let is_ended : IsEnded second.plan second.solo first.entries first.showings second.ended =
-    rw (same.entries, same.showings) two.run.ended in
+    let is_ended : IsEnded q first.entries first.showings second.ended = rw (same.entries, same.showings) two.run.ended in
     record {
       entries = same.entries;
       showings = same.showings;
-      ended = end_one first.plan second.plan first.solo second.solo first.entries first.showings first.ended second.ended first.tail second.tail
-          (length first.entries) (length second.entries) one.run.ended is_ended same.rest;
+      ended = end_one p q first.entries first.showings first.ended second.ended first.tail second.tail (length first.entries) (length second.entries) one.run.ended is_ended same.rest;
     }
 
 pub text_determines : (program : Program) (first second : Run) → TextDetermines program first second
 text_determines program first second one two e =
+    let p = made_for program first.plan first.solo in
+    let q = made_for program second.plan second.solo in
     by_lines program program first second one two
-    (by_program program [] 0 first.plan second.plan (first_standing first.solo) (first_standing second.solo) None None None None first.entries second.entries
-    one.run.requests one.run.lawful two.run.requests two.run.lawful)
+    (by_program [] p q (first_ledger p) (first_ledger q) first.entries second.entries refl refl one.run.requests one.run.lawful two.run.requests two.run.lawful)
     e
 
 pub text_alone_determines : (program other : Program) (first second : Run) → TextAloneDetermines program other first second
 text_alone_determines program other first second one ranges two ranges' e =
+    let p = made_for program first.plan first.solo in
+    let q = made_for other second.plan second.solo in
     by_lines program other first second one two
-    (by_range 0 first.plan second.plan (first_standing first.solo) (first_standing second.solo) None None None None first.entries second.entries
-    ranges one.run.lawful ranges' two.run.lawful)
+    (by_range p q (first_ledger p) (first_ledger q) first.entries second.entries refl ranges one.run.lawful ranges' two.run.lawful)
     e

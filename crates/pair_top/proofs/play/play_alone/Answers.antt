@@ -2,7 +2,7 @@
 use Rattle.std.proofs.Common.{◌≡◌, ◌+◌, ◌*◌, ◌-◌, ◌++◌, ◌∷◌, [], List, replicate, true, false, refl, sym, ◌∙◌, ap, subst}
 use Rattle.s7_events.specs.declared.entry.Side.{Side}
 use Rattle.s7_events.specs.declared.entry.Side.TheVariants.{A}
-use Rattle.pair_core.specs.World.{Setup}
+use Rattle.pair_core.specs.Setup.{Setup}
 use Rattle.pair_core.specs.Turns.{is_over}
 use Rattle.pair_top.specs.Playing.{Plays}
 use Rattle.pair_top.proofs.Plays.{Reaches, one_visit, replicate_left, reaches_on, reaches_over, ends_all}

@@ -1,6 +1,6 @@
 -- The visits of a part, again and again.
 use Rattle.std.proofs.Common.{◌+◌, ◌-◌, ◌++◌, true, false, ◌∙◌, subst}
-use Rattle.pair_core.specs.World.{Setup}
+use Rattle.pair_core.specs.Setup.{Setup}
 use Rattle.pair_top.specs.Pattern.{repeated}
 use Rattle.pair_top.specs.PatternView.{sides_in}
 use Rattle.pair_top.specs.Playing.{Plays}

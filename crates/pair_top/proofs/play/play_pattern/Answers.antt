@@ -1,7 +1,8 @@
 -- The visits of a pattern, part by part.
 use Rattle.std.proofs.Common.{◌++◌, [], true, false, refl, sym, ◌∙◌, ap, subst}
 use Rattle.std.specs.Option.{option_map}
-use Rattle.pair_core.specs.World.{Setup, play}
+use Rattle.pair_core.specs.Setup.{Setup}
+use Rattle.pair_core.specs.World.{play}
 use Rattle.pair_top.specs.Pattern.{repeated, parts_of}
 use Rattle.pair_top.specs.PatternView.{sides_in, part_view, pieces_left}
 use Rattle.pair_top.specs.WordsView.{visits_in}

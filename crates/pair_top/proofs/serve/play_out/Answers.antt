@@ -1,6 +1,6 @@
 -- A play that has come to its end.
 use Rattle.std.proofs.Common.{subst}
-use Rattle.pair_core.specs.World.{Setup}
+use Rattle.pair_core.specs.Setup.{Setup}
 use Rattle.pair_top.specs.Playing.{of_side}
 use Rattle.pair_top.specs.Serving.{ComesToTail}
 use Rattle.pair_top.proofs.serve.play_out.Goals as goal

@@ -1,10 +1,12 @@
 use Rattle.std.proofs.Common.{◌≡◌, ◌∙◌, ◌*◌, [], length, ap, sym, subst, arith}
 use Rattle.s7_events.specs.declared.entry.Side.TheVariants.{A, B}
-use Rattle.pair_core.specs.Sides.{standing}
+use Rattle.pair_core.specs.Setup.{Setup}
+use Rattle.pair_core.specs.Ledger.{ledger, standing}
 use Rattle.pair_core.specs.CutsKept.{IsCutsAt}
-use Rattle.pair_core.specs.Monitor.{watch_of}
-use Rattle.pair_core.specs.World.{Setup, shown_past, first_world}
+use Rattle.pair_core.specs.Sides.{of_side}
+use Rattle.pair_core.specs.World.{shown_past, first_world}
 use Rattle.pair_core.specs.Progress.{IsAlone}
+use Rattle.pair_core.proofs.Snoc.{moment_is}
 use Rattle.pair_core.proofs.Visits.{good_begun}
 use Rattle.pair_core.proofs.Progress.{alone_first}
 use Rattle.pair_core.proofs.pair.Pair.new.Goals as goal
@@ -15,12 +17,14 @@ invariant_of-result c =
     let unshown : c.in_ok-shown.shown.list ≡ [] = ap (λ l. l.list) c.in_ok-shown.ensures in
     let setup : Setup = record { program = c.in_ok-program.program; plan = c.args.script; solo = c.args.solo } in (
       record {
-        standing = c.first.ensures ∙ ap (λ es. standing c.args.solo es) (sym none);
-        watch = ap watch_of (sym none);
-        shown_a = ap (λ xs. shown_past xs A) (sym unshown);
-        shown_b = ap (λ xs. shown_past xs B) (sym unshown);
-        image = (0, omega arith, c.new.ensures c.args.script 0);
-        cuts = subst (λ k. IsCutsAt c.args.script k c.new-cuts.result) (sym (ap length none)) c.new-cuts.ensures;
+        derived = record {
+          standing = c.first.ensures ∙ ap (λ es. standing setup es) (sym none);
+          watch = ap (λ es. (ledger setup es).watch) (sym none);
+          moment = moment_is setup c.in_ok-log.log.entries;
+          past = λ side. elim side as (λ s. of_side (record { a = 0; b = 0 }) s ≡ shown_past c.in_ok-shown.shown.list s) [ A ↦ ap (λ xs. shown_past xs A) (sym unshown) | B ↦ ap (λ xs. shown_past xs B) (sym unshown) ];
+          image = (0, omega arith, c.new.ensures c.args.script 0);
+          cuts = subst (λ k. IsCutsAt c.args.script k c.new-cuts.result) (sym (ap length none)) c.new-cuts.ensures;
+        };
         few = omega (arith, ap length none);
         plan = c.end-end.ensures.form;
         room = ap (λ l. l.room) c.in_ok-log.ensures ∙ c.end-end.ensures.value;

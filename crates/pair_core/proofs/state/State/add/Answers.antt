@@ -1,25 +1,30 @@
-use Rattle.std.proofs.Common.{[], ◌∷◌, length, length-append, arith, ap, sym, subst, ◌∙◌}
+use Rattle.std.proofs.Common.{◌≡◌, [], ◌∷◌, length, length-append, arith, ap, sym, subst, ◌∙◌}
 use Rattle.pair_core.specs.CutsKept.{IsCutsAt}
-use Rattle.pair_core.specs.Sides.{first_standing, after_answer}
+use Rattle.pair_core.specs.Ledger.{Ledger, ledger, after}
+use Rattle.pair_core.specs.Sides.{after_answer}
 use Rattle.pair_core.proofs.Advances.{goes_on}
-use Rattle.pair_core.specs.Monitor.{watch_by, watch_of}
-use Rattle.pair_core.proofs.Snoc.{standing_snoc, watch_added}
+use Rattle.pair_core.specs.Monitor.{watch_by}
+use Rattle.pair_core.specs.Kept.{setup_of}
+use Rattle.pair_core.proofs.Snoc.{ledger_added, moment_is}
 use Rattle.pair_core.proofs.state.State.add.Goals as goal
 
 pub returns-clause-kept : goal.returns-clause-kept
 returns-clause-kept c =
     let kept = c.requires.kept in
-    let es = c.args.self.now.log.entries in
+    let es = c.args.self.now.log.record.entries in
+    let p = setup_of c.args.self.now in
+    let e = c.args.entry in
+    let led : ledger p c.append.new.self.entries ≡ after p (ledger p es) e = ap (λ l. ledger p l.entries) c.append.ensures ∙ ledger_added p es e in
     record {
-      standing = c.after-self.ensures ∙ ap (λ s. after_answer s c.args.entry.answer) kept.standing
-          ∙ rw (ap (λ l. l.entries) c.append.ensures, standing_snoc (first_standing c.args.self.now.solo) es c.args.entry);
-      watch = c.watch_by-self.ensures ∙ ap (λ n. watch_by c.args.self.now.watch n c.args.entry.request.ask c.args.entry.answer) c.len-moment.ensures
-          ∙ ap (λ w. watch_by w (length es) c.args.entry.request.ask c.args.entry.answer) kept.watch
-          ∙ sym (ap watch_of (ap (λ l. l.entries) c.append.ensures) ∙ watch_added es c.args.entry);
-      shown_a = kept.shown_a;
-      shown_b = kept.shown_b;
-      image = (kept.image.0, omega (arith, kept.image.1, ap (λ l. length l.entries) c.append.ensures, length-append es (c.args.entry ∷ [])), kept.image.2);
-      cuts = subst (λ k. IsCutsAt c.args.self.now.script k c.advance-self.result) c.len.ensures c.advance-self.ensures;
+      derived = record {
+        standing = c.after-self.ensures ∙ ap (λ s. after_answer s e.answer) kept.derived.standing ∙ sym (ap (λ (g : Ledger). g.standing) led);
+        watch = c.watch_by-self.ensures ∙ ap (λ n. watch_by c.args.self.now.derived.watch n e.request.ask e.answer) (c.len-moment.ensures ∙ sym (moment_is p es))
+            ∙ ap (λ w. watch_by w (ledger p es).moment e.request.ask e.answer) kept.derived.watch ∙ sym (ap (λ (g : Ledger). g.watch) led);
+        moment = moment_is p c.append.new.self.entries;
+        past = kept.derived.past;
+        image = (kept.derived.image.0, omega (arith, kept.derived.image.1, ap (λ l. length l.entries) c.append.ensures, length-append es (c.args.entry ∷ [])), kept.derived.image.2);
+        cuts = subst (λ k. IsCutsAt c.args.self.now.setup.script k c.advance-self.result) c.len.ensures c.advance-self.ensures;
+      };
       few = omega (arith, ap (λ l. length l.entries) c.append.ensures, length-append es (c.args.entry ∷ []));
       plan = kept.plan;
       room = ap (λ l. l.room) c.append.ensures ∙ kept.room;
@@ -28,5 +33,5 @@ returns-clause-kept c =
 
 pub advance-self-requires : goal.advance-self-requires
 advance-self-requires c =
-    let es = c.args.self.now.log.entries in
-    goes_on c.args.self.now.script (length es) c.len.result c.args.self.now.cuts (omega (arith, c.len.ensures, ap (λ l. length l.entries) c.append.ensures, length-append es (c.args.entry ∷ []))) c.requires.kept.cuts
+    let es = c.args.self.now.log.record.entries in
+    goes_on c.args.self.now.setup.script (length es) c.len.result c.args.self.now.derived.cuts (omega (arith, c.len.ensures, ap (λ l. length l.entries) c.append.ensures, length-append es (c.args.entry ∷ []))) c.requires.kept.derived.cuts

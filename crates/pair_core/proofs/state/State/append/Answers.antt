@@ -3,10 +3,11 @@ use Rattle.std.proofs.lemmas.List.{length-map}
 use Rattle.s7_events.specs.declared.entry.Entry.{Entry}
 use Rattle.mc_machine.specs.Meaning.{is_dated}
 use Rattle.pair_core.specs.Played.{answers_of}
-use Rattle.pair_core.specs.World.{part_in, standing_in}
+use Rattle.pair_core.specs.Ledger.{ledger}
+use Rattle.pair_core.specs.Sides.{of_side}
 use Rattle.pair_core.specs.Kept.{setup_of, log_of}
-use Rattle.pair_core.specs.Monitor.{watch_of}
-use Rattle.pair_core.proofs.Answers.{lawful_is, lawful_takes, lawful_dated}
+use Rattle.pair_core.proofs.Answers.{lawful_takes, lawful_dated}
+use Rattle.pair_core.proofs.Snoc.{moment_is}
 use Rattle.pair_core.proofs.Opens.{going_at, open_room}
 use Rattle.pair_core.proofs.Taking.{can_ask_at, can_take, stands_all, take_added, took, put_added}
 use Rattle.pair_core.proofs.state.State.append.Goals as goal
@@ -14,19 +15,15 @@ use Rattle.pair_core.proofs.state.State.append.Goals as goal
 pub ask-request-requires : goal.ask-request-requires
 ask-request-requires c =
     let self = c.args.self.now in
-    let own = part_in self.parts c.args.side in
-    can_ask_at self.program own self.log.entries c.args.sub.now c.requires.at c.requires.can.0
+    let own = of_side self.parts c.args.side in
+    can_ask_at self.setup.program own self.log.record.entries c.args.sub.now c.requires.at c.requires.can.0
     (going_at (setup_of self) (log_of self) own.place c.requires.can.3 c.requires.can.2)
 
 pub take-requires-clause-takes : goal.take-requires-clause-takes
 take-requires-clause-takes c =
     let self = c.args.self.now in
-    let st = standing_in (setup_of self) (log_of self) in
-    let k = length self.log.entries in
-    let watch = watch_of self.log.entries in
     can_take c.ask-request.new.self.machine c.ask-request.result c.answer-answer.result c.ask-request.ensures.waits
-    (lawful_takes self.script st watch k c.ask-request.result c.answer-answer.result
-    (lawful_is self.script st watch k c.ask-request.result.ask c.answer-answer.result c.answer-answer.ensures.answer))
+    (lawful_takes (setup_of self) (ledger (setup_of self) self.log.record.entries) c.ask-request.result c.answer-answer.result c.answer-answer.ensures.answer)
 
 pub add-requires-clause-room : goal.add-requires-clause-room
 add-requires-clause-room c =
@@ -37,27 +34,26 @@ add-requires-clause-room c =
 pub returns-clause-at : goal.returns-clause-at
 returns-clause-at c =
     let self = c.args.self.now in
-    let own = part_in self.parts c.args.side in
-    let es = self.log.entries in
+    let own = of_side self.parts c.args.side in
+    let es = self.log.record.entries in
     let e : Entry = record { request = c.ask-request.result; answer = c.answer-answer.result } in
     let alive = c.requires.can.0 in
     let here = c.requires.can.2 in
     let world = c.answer-answer.ensures.world in
     let count : length es ≡ length (answers_of es) = sym (length-map es (λ (x : Entry). x.answer)) in
-    let stands = c.ask-request.ensures.stands self.program (answers_of es) (stands_all self.program own es c.args.sub.now c.requires.at alive here) in
-    let own_is : c.get-own.result ≡ own = c.get-own.ensures ∙ ap (λ w. part_in w.parts c.args.side) world in
+    let stands = c.ask-request.ensures.stands self.setup.program (answers_of es) (stands_all self.setup.program own es c.args.sub.now c.requires.at alive here) in
+    let own_is : c.of-own.result ≡ own = c.of-own.ensures ∙ ap (λ w. of_side w.parts c.args.side) world in
     let from : c.from.result ≡ length es = c.from.ensures ∙ c.len-moment.ensures in
-    let st = standing_in (setup_of self) (log_of self) in
-    let watch = watch_of es in
-    let dated = lawful_dated self.script st watch (length es) e.request.ask e.answer (lawful_is self.script st watch (length es) e.request.ask e.answer c.answer-answer.ensures.answer) in
-    put_added self.program c.add.new.self.program self.parts c.add.new.self.parts c.put.new.self c.args.side c.get-own.result c.len-moment.result es c.add.new.self.log.entries e c.take.new.self
+    let g = ledger (setup_of self) es in
+    let dated = lawful_dated (setup_of self) g e.request.ask e.answer c.answer-answer.ensures.answer in
+    put_added self.setup.program c.add.new.self.setup.program self.parts c.add.new.self.parts c.put.new.self c.args.side c.of-own.result c.len-moment.result es c.add.new.self.log.record.entries e c.take.new.self
     (ap (λ p. p.program) c.add.ensures.setup ∙ ap (λ p. p.program) c.answer-answer.ensures.setup)
     (ap (λ l. l.entries) c.add.ensures.log ∙ ap (λ w. w.log.entries ++ e ∷ []) world)
     (c.add.ensures.parts ∙ ap (λ w. w.parts) world)
     own_is
     (c.len-moment.ensures ∙ sym here ∙ ap (λ o. o.place) (sym own_is))
     c.put.ensures
-    (took self.program own es (es ++ e ∷ []) e c.ask-request.new.self c.take.new.self c.ask-request.result alive c.requires.can.1
+    (took self.setup.program own es (es ++ e ∷ []) e c.ask-request.new.self c.take.new.self c.ask-request.result alive c.requires.can.1
     (c.ask-request.ensures.lives ∙ c.requires.at.lives) c.ask-request.ensures.waits refl
     (take_added es own.place e here) c.take.ensures.lives c.take.ensures.going
-    (c.take.ensures.stands self.program (answers_of es) (from ∙ count) (subst (λ n. is_dated n e.answer ≡ true) (sym from) dated) stands))
+    (c.take.ensures.stands self.setup.program (answers_of es) (from ∙ count) (subst (λ n. is_dated n e.answer ≡ true) (moment_is (setup_of self) es ∙ sym from) dated) stands))

@@ -1,6 +1,6 @@
 use Rattle.std.proofs.Common.{◌≡◌, ◌∙◌, ◌≤◌, true, length, take, sym, subst, ap, arith}
 use Rattle.mc_machine.specs.Meaning.{is_dated}
-use Rattle.pair_core.specs.World.{part_in}
+use Rattle.pair_core.specs.Sides.{of_side}
 use Rattle.pair_core.specs.Kept.{setup_of, log_of}
 use Rattle.pair_core.specs.Played.{answers_of}
 use Rattle.pair_core.proofs.Taking.{met, can_ask_at, takes_next, stands_at, asked_same, answers_length, take_next, put_taken, took}
@@ -8,35 +8,35 @@ use Rattle.pair_core.proofs.state.State.take.Goals as goal
 
 pub ask-requires : goal.ask-requires
 ask-requires c =
-    let own = part_in c.args.self.now.parts c.args.side in
-    let here = rw (ap (λ o. o.place) c.get-own.ensures) at c.entry_at-entry.ensures in
+    let own = of_side c.args.self.now.parts c.args.side in
+    let here = rw (ap (λ o. o.place) c.of-own.ensures) at c.entry_at-entry.ensures in
     let m = met (setup_of c.args.self.now) (log_of c.args.self.now) own.place c.entry_at-entry.result c.requires.good here in
-    can_ask_at c.args.self.now.program own c.args.self.now.log.entries c.args.sub.now c.requires.at c.requires.can.0 m.going
+    can_ask_at c.args.self.now.setup.program own c.args.self.now.log.record.entries c.args.sub.now c.requires.at c.requires.can.0 m.going
 
 pub take-requires-clause-takes : goal.take-requires-clause-takes
 take-requires-clause-takes c =
-    let own = part_in c.args.self.now.parts c.args.side in
-    let here = rw (ap (λ o. o.place) c.get-own.ensures) at c.entry_at-entry.ensures in
+    let own = of_side c.args.self.now.parts c.args.side in
+    let here = rw (ap (λ o. o.place) c.of-own.ensures) at c.entry_at-entry.ensures in
     let m = met (setup_of c.args.self.now) (log_of c.args.self.now) own.place c.entry_at-entry.result c.requires.good here in
-    takes_next c.args.self.now.program own c.args.self.now.log.entries c.args.sub.now c.ask.new.self c.entry_at-entry.result.request c.ask.result c.entry_at-entry.result.answer
-    c.requires.at c.requires.can.0 c.ask.ensures.waits (c.ask.ensures.next c.args.self.now.program _) m.asked m.fits
+    takes_next c.args.self.now.setup.program own c.args.self.now.log.record.entries c.args.sub.now c.ask.new.self c.entry_at-entry.result.request c.ask.result c.entry_at-entry.result.answer
+    c.requires.at c.requires.can.0 c.ask.ensures.waits (c.ask.ensures.next c.args.self.now.setup.program _) m.asked m.fits
 
 pub returns-clause-at : goal.returns-clause-at
 returns-clause-at c =
     let self = c.args.self.now in
-    let own = part_in self.parts c.args.side in
-    let es = self.log.entries in
+    let own = of_side self.parts c.args.side in
+    let es = self.log.record.entries in
     let e = c.entry_at-entry.result in
-    let here = rw (ap (λ o. o.place) c.get-own.ensures) at c.entry_at-entry.ensures in
+    let here = rw (ap (λ o. o.place) c.of-own.ensures) at c.entry_at-entry.ensures in
     let m = met (setup_of self) (log_of self) own.place e c.requires.good here in
     let alive = c.requires.can.0 in
     let given = answers_of (take own.place es) in
     let lives = c.ask.ensures.lives ∙ c.requires.at.lives in
-    let asks = asked_same self.program own es c.args.sub.now c.ask.new.self e.request c.ask.result c.requires.at alive (c.ask.ensures.next self.program given) m.asked in
+    let asks = asked_same self.setup.program own es c.args.sub.now c.ask.new.self e.request c.ask.result c.requires.at alive (c.ask.ensures.next self.setup.program given) m.asked in
     let less : own.place ≤ length es = omega (arith, c.requires.can.2) in
-    let from : c.from.result ≡ own.place = c.from.ensures ∙ ap (λ o. o.place) c.get-own.ensures in
+    let from : c.from.result ≡ own.place = c.from.ensures ∙ ap (λ o. o.place) c.of-own.ensures in
     let moment : c.from.result ≡ length given = from ∙ sym (answers_length es own.place less) in
-    let stands = c.ask.ensures.stands self.program given (stands_at self.program own es c.args.sub.now c.requires.at alive) in
-    put_taken c.args.self.now.parts c.put.new.self c.args.side c.get-own.result self.program es c.take.new.self c.get-own.ensures c.put.ensures
-    (took self.program own (take own.place es) es e c.ask.new.self c.take.new.self c.ask.result alive c.requires.can.1 lives c.ask.ensures.waits asks
-    (take_next es own.place e here) c.take.ensures.lives c.take.ensures.going (c.take.ensures.stands self.program given moment (subst (λ n. is_dated n e.answer ≡ true) (sym from) m.dated) stands))
+    let stands = c.ask.ensures.stands self.setup.program given (stands_at self.setup.program own es c.args.sub.now c.requires.at alive) in
+    put_taken c.args.self.now.parts c.put.new.self c.args.side c.of-own.result self.setup.program es c.take.new.self c.of-own.ensures c.put.ensures
+    (took self.setup.program own (take own.place es) es e c.ask.new.self c.take.new.self c.ask.result alive c.requires.can.1 lives c.ask.ensures.waits asks
+    (take_next es own.place e here) c.take.ensures.lives c.take.ensures.going (c.take.ensures.stands self.setup.program given moment (subst (λ n. is_dated n e.answer ≡ true) (sym from) m.dated) stands))
