@@ -6,8 +6,8 @@ ghost use Rattle.std.specs.Option.{option_map};
 ghost use Rattle.s7_base.specs.Blocks.{Program, IsPlayable};
 ghost use Rattle.mc_machine.specs.Stands.{IsIdle, IsRunning, CanAsk, CanTake, IsDated, CanGoOn, IsAsked, HasStopped, WaitsAt, Stands, CpuWaits, CpuStopped, area_bytes, OfRunning, HasSizes, byte_of, counter_of, notes_of};
 
-use crate::engine::Engine;
 use crate::Place;
+use crate::engine::Engine;
 use s7_base::{Answer, Area, Blocks, DiagCode, NoMemory, Request};
 use statement_effects::{ByteArea, Memory};
 use std::alloc::Global;
