@@ -32,37 +32,47 @@ pub struct Life {
 /// The most lives that are kept.
 const LIVES: usize = 66;
 
-/// One side: its machine, which runs while a life is open, and the lives that it has had. Only `new` and `load`
-/// take memory.
+/// What a side is doing.
+#[derive(Debug, Drop)]
+pub enum Phase {
+    /// It is out, and has nothing.
+    Out,
+    /// It is out, and holds this number of parcels of the other side's state. No side comes back yet, so none is in this
+    /// phase.
+    Holding(u32),
+    /// A life is open: its machine runs.
+    Running(Machine),
+}
+
+/// One side: what it is doing, and the lives that it has had. Only `new` and `load` take memory.
 #[derive(Debug, Drop)]
 pub struct Subsystem {
-    machine: Machine,
+    phase: Phase,
     lives: Vec<Life>,
-    is_open: bool,
 }
 
 impl Model for Subsystem {
     ghost use Rattle.std.specs.Prelude.{◌≡◌, ◌≤◌, ◌<◌, true, vec_len, vec_capacity, is_some};
     ghost use Rattle.subsystem.specs.Part.{Part, IsOpen};
+    ghost use Rattle.subsystem.specs.Phases.{machine_in, IsPhase};
 
     ghost Value = { Part };
 
-    ghost view = { λ s. record { machine = s.machine; lives = s.lives.items } };
+    ghost view = { λ s. record { machine = machine_in s.phase; lives = s.lives.items } };
 
     // an open life is the last that is kept
-    ghost invariant = { λ s. (66 ≤ vec_capacity s.lives) × (s.is_open ≡ is_some s.machine) × (s.is_open ≡ true → 0 < vec_len s.lives) };
+    ghost invariant = { λ s. (66 ≤ vec_capacity s.lives) × IsPhase s.phase × (is_some (machine_in s.phase) ≡ true → 0 < vec_len s.lives) };
 }
 
 impl Subsystem {
-    /// An empty one: an idle machine and no life.
+    /// One that is out: no machine and no life.
     pub fn new(alloc: Global) -> Result<Subsystem, NoMemory>
         ensures { IfOk result IsNew }
     {
         match Vec::with_capacity(alloc, LIVES) {
             Ok(lives) => Ok(Subsystem {
-                machine: Machine::new(),
+                phase: Phase::Out,
                 lives,
-                is_open: false,
             }),
             Err(_) => Err(NoMemory),
         }
@@ -77,7 +87,8 @@ impl Subsystem {
         ensures going { OnOk result (CanAsk self.new.machine) }
         ensures err { OnErr result (self.new ≡ self.old) }
     {
-        self.machine.load(alloc, blocks)?;
+        let mut machine = Machine::new();
+        machine.load(alloc, blocks)?;
         let life = Life {
             how: How::Loaded,
             first: 0,
@@ -86,7 +97,7 @@ impl Subsystem {
         let Ok(()) = self.lives.push(life) else {
             unreachable!();
         };
-        self.is_open = true;
+        self.phase = Phase::Running(machine);
         Ok(())
     }
 
@@ -97,7 +108,10 @@ impl Subsystem {
         ensures stops { result ≡ false → IsOpen self.now → (program : Program) (given : List Answer) → Stands program given self.now.machine
             → CpuStopped program given self.now.machine }
     {
-        self.is_open && !self.machine.stopped()
+        match &self.phase {
+            Phase::Running(machine) => !machine.stopped(),
+            Phase::Out | Phase::Holding(_) => false,
+        }
     }
 
     /// The next request of its CPU. Asked again, it answers the same.
@@ -110,7 +124,10 @@ impl Subsystem {
         ensures stands { (program : Program) (given : List Answer) → Stands program given self.old.machine → Stands program given self.new.machine }
         ensures next { (program : Program) (given : List Answer) → Stands program given self.old.machine → CpuWaits program given result self.new.machine }
     {
-        self.machine.ask()
+        let Phase::Running(machine) = &mut self.phase else {
+            unreachable!();
+        };
+        machine.ask()
     }
 
     /// Takes an entry's answer: the last life grows by it.
@@ -123,7 +140,9 @@ impl Subsystem {
         ensures stands { (program : Program) (given : List Answer) → moment ≡ length given → IsDated moment answer.now → Stands program given self.old.machine
             → Stands program (given ++ answer.now ∷ []) self.new.machine }
     {
-        self.machine.take(answer, moment);
+        if let Phase::Running(machine) = &mut self.phase {
+            machine.take(answer, moment);
+        }
         let Some(life) = self.lives.pop() else {
             unreachable!();
         };
@@ -142,8 +161,18 @@ impl Subsystem {
         ensures idle { IsIdle self.new.machine }
         ensures lives { self.new.lives ≡ self.old.lives }
     {
-        self.machine = Machine::new();
-        self.is_open = false;
+        self.phase = Phase::Out;
+    }
+
+    /// The machine of a life that is open.
+    fn running(&self) -> &Machine
+        requires { IsOpen self.now }
+        ensures machine { result.now ≡ self.now.machine }
+    {
+        let Phase::Running(machine) = &self.phase else {
+            unreachable!();
+        };
+        machine
     }
 
     /// The lives, in their order.
@@ -159,7 +188,7 @@ impl Subsystem {
         ensures byte { result ≡ byte_of self.now.machine area at_byte }
         ensures sizes { OfRunning self.now.machine (λ running. HasSizes running.config.memory) }
     {
-        self.machine.image_byte(area, at_byte)
+        self.running().image_byte(area, at_byte)
     }
 
     /// The diagnostic entry k of those kept, the oldest first: its moment in milliseconds and its text. None
@@ -168,7 +197,7 @@ impl Subsystem {
         requires { IsOpen self.now }
         ensures { result ≡ option_map (λ note. (note.moment, note.code)) (slice_get (notes_of self.now.machine) k) }
     {
-        self.machine.note_at(k)
+        self.running().note_at(k)
     }
 
     /// How many diagnostic entries are kept.
@@ -176,7 +205,7 @@ impl Subsystem {
         requires { IsOpen self.now }
         ensures { result ≡ length (notes_of self.now.machine) }
     {
-        self.machine.note_count()
+        self.running().note_count()
     }
 
     /// The value of a counter, from 0 to 999.
@@ -186,7 +215,7 @@ impl Subsystem {
         ensures bound { result ≤ 999 }
         ensures count { OfRunning self.now.machine (λ running. length running.config.memory.counters ≡ 256) }
     {
-        self.machine.counter_value(n)
+        self.running().counter_value(n)
     }
 
     /// The number of bytes of a data block. None is loaded yet.
@@ -194,6 +223,6 @@ impl Subsystem {
         requires { IsOpen self.now }
         ensures { result ≡ None }
     {
-        self.machine.block_length(n)
+        self.running().block_length(n)
     }
 }
