@@ -2,8 +2,8 @@
 use Rattle.std.specs.Prelude.{ℕ, ℤ, pos, ◌+ℤ◌, ◌-ℤ◌, Bool, if◌then◌else◌}
 use Rattle.std.specs.Int.{w16, w32, swap_bytes, bit_not}
 use Rattle.accumulators.specs.declared.accus.Accus.{Accus}
-use Rattle.accumulators.specs.declared.accus.Move.{Move}
-use Rattle.accumulators.specs.declared.accus.Move.TheVariants.{Push, Pop, Ent, Leave, Tak, Caw, Cad, Invi, Invd, Itd}
+use Rattle.instruction_set.specs.declared.operation.Move.{Move}
+use Rattle.instruction_set.specs.declared.operation.Move.TheVariants.{Push, Pop, Ent, Leave, Tak, Caw, Cad, Invi, Invd, Itd}
 use Rattle.accumulators.specs.declared.parts.Part.TheVariants.{LowByte, LowWord, Whole}
 use Rattle.accumulators.specs.Parts.{part, low, number, with_low, stored}
 

@@ -5,8 +5,8 @@ use Rattle.status_word.specs.NumberRows.{arith_row}
 use Rattle.accumulators.specs.declared.accus.Accus.{Accus}
 use Rattle.accumulators.specs.declared.parts.Part.{Part}
 use Rattle.accumulators.specs.declared.parts.Part.TheVariants.{LowWord, Whole}
-use Rattle.accumulators.specs.declared.numbers.Num.{Num}
-use Rattle.accumulators.specs.declared.numbers.Num.TheVariants.{AddI, SubI, MulI, DivI, AddD, SubD, MulD, DivD, ModD, NegI, NegD}
+use Rattle.instruction_set.specs.declared.operation.Num.{Num}
+use Rattle.instruction_set.specs.declared.operation.Num.TheVariants.{AddI, SubI, MulI, DivI, AddD, SubD, MulD, DivD, ModD, NegI, NegD}
 use Rattle.accumulators.specs.declared.numbers.Outcome.{Outcome}
 use Rattle.accumulators.specs.Parts.{size, number, low_bits, stored}
 

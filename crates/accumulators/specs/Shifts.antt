@@ -7,8 +7,8 @@ use Rattle.status_word.specs.NumberRows.{shift_row}
 use Rattle.accumulators.specs.declared.accus.Accus.{Accus}
 use Rattle.accumulators.specs.declared.parts.Part.{Part}
 use Rattle.accumulators.specs.declared.parts.Part.TheVariants.{LowWord, Whole}
-use Rattle.accumulators.specs.declared.shifts.Shift.{Shift}
-use Rattle.accumulators.specs.declared.shifts.Shift.TheVariants.{Ssi, Ssd, Slw, Srw, Sld, Srd, Rld, Rrd}
+use Rattle.instruction_set.specs.declared.operation.Shift.{Shift}
+use Rattle.instruction_set.specs.declared.operation.Shift.TheVariants.{Ssi, Ssd, Slw, Srw, Sld, Srd, Rld, Rrd}
 use Rattle.accumulators.specs.declared.shifts.Shifted.{Shifted}
 use Rattle.accumulators.specs.Parts.{size, low, number, low_bits, with_low}
 

@@ -3,8 +3,8 @@ use Rattle.std.specs.Prelude.{ℕ, ◌==◌, bit_and, bit_or, bit_xor, Bool, not
 use Rattle.status_word.specs.declared.status.StatusWord.{StatusWord}
 use Rattle.status_word.specs.NumberRows.{logic_row}
 use Rattle.accumulators.specs.declared.accus.Accus.{Accus}
-use Rattle.accumulators.specs.declared.words.Word.{Word}
-use Rattle.accumulators.specs.declared.words.Word.TheVariants.{And, Or, Xor}
+use Rattle.instruction_set.specs.declared.operation.Word.{Word}
+use Rattle.instruction_set.specs.declared.operation.Word.TheVariants.{And, Or, Xor}
 use Rattle.accumulators.specs.Parts.{part, low, with_low}
 
 abbrev pub combined : Word → ℕ → ℕ → ℕ

@@ -3,6 +3,7 @@ ghost use Rattle.std.specs.Prelude.{◌≡◌};
 ghost use Rattle.accumulators.specs.Moves.{cleared_accus, loaded, moved, constant_added, byte_counted};
 
 use crate::parts::Part;
+use instruction_set::Move;
 
 /// The accumulators ACCU1 to ACCU4.
 #[derive(Clone, Copy, PartialEq, Eq, Default, Debug)]
@@ -11,21 +12,6 @@ pub struct Accus {
     pub accu2: u32,
     pub accu3: u32,
     pub accu4: u32,
-}
-
-/// The statements that move or invert accumulators.
-#[derive(Clone, Copy, PartialEq, Eq, Debug)]
-pub enum Move {
-    Push,
-    Pop,
-    Ent,
-    Leave,
-    Tak,
-    Caw,
-    Cad,
-    Invi,
-    Invd,
-    Itd,
 }
 
 impl Accus {

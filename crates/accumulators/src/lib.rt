@@ -9,12 +9,10 @@ mod parts;
 mod shifts;
 mod words;
 
-pub use accus::{Accus, Move};
+pub use accus::Accus;
 pub use bcd::BadBcd;
+pub use instruction_set::{Move, Num, Shift, Word};
 pub use laws::result_in_range_is_true;
-pub use numbers::Num;
-pub use shifts::Shift;
-pub use words::Word;
 
 #[cfg(test)]
 mod tests;

@@ -5,23 +5,8 @@ ghost use Rattle.accumulators.specs.Numbers.{sign_codes, is_in_range, sum_outcom
 
 use crate::accus::Accus;
 use crate::parts::Part;
+use instruction_set::Num;
 use status_word::StatusWord;
-
-/// The statements on numbers: I forms on the low words, D forms on the whole accumulators.
-#[derive(Clone, Copy, PartialEq, Eq, Debug)]
-pub enum Num {
-    AddI,
-    SubI,
-    MulI,
-    DivI,
-    AddD,
-    SubD,
-    MulD,
-    DivD,
-    ModD,
-    NegI,
-    NegD,
-}
 
 /// What a statement on numbers leaves.
 #[derive(Clone, Copy)]

@@ -6,20 +6,8 @@ ghost use Rattle.accumulators.specs.Shifts.{to_left, to_right, signed_to_right, 
 
 use crate::accus::Accus;
 use crate::parts::Part;
+use instruction_set::Shift;
 use status_word::StatusWord;
-
-/// The shifts and rotations.
-#[derive(Clone, Copy, PartialEq, Eq, Debug)]
-pub enum Shift {
-    Ssi,
-    Ssd,
-    Slw,
-    Srw,
-    Sld,
-    Srd,
-    Rld,
-    Rrd,
-}
 
 /// What a shift leaves: the bits of the part, and the last bit moved out.
 #[derive(Clone, Copy)]

@@ -5,15 +5,8 @@ ghost use Rattle.accumulators.specs.Words.{combined, worded, worded_status};
 
 use crate::accus::Accus;
 use crate::parts::Part;
+use instruction_set::Word;
 use status_word::StatusWord;
-
-/// How two words are combined: AW and AD, OW and OD, XOW and XOD.
-#[derive(Clone, Copy, PartialEq, Eq, Debug)]
-pub enum Word {
-    And,
-    Or,
-    Xor,
-}
 
 /// Two words of a part combined.
 fn combined(op: Word, part: Part, left: u32, right: u32) -> u32

@@ -1,3 +1,4 @@
+use instruction_set::*;
 use s7_base::*;
 use std::alloc::Global;
 use std::test::Fail;
@@ -197,7 +198,7 @@ fn statements_are_of_the_language_or_not(rt: HostRuntime) {
     assert_eq!(rt; instruction_set().len(), 128);
     let row = instruction_row(101).expect(&rt, "there is an operation 101");
     let mnemonic = row.mnemonic;
-    assert_eq!(rt; row.operation, Operation::Branch(Branch::Loop));
+    assert_eq!(rt; row.operation, Operation::Loop);
     assert_eq!(rt; mnemonic, *b"LOOP\0");
     assert_eq!(rt; row.operation.number(), 101);
     assert_eq!(rt; instruction_row(128), None);

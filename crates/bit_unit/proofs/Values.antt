@@ -3,8 +3,8 @@ use Rattle.std.proofs.Common.{◌≡◌, ◌+◌, ◌≤◌, ◌<◌, length, �
 use Rattle.std.specs.Prelude.{Bool, true, false, not, ◌&&◌, ◌||◌, if◌then◌else◌, Ok}
 use Rattle.std.proofs.lemmas.Bool.{lt-ltb}
 use Rattle.status_word.specs.declared.status.StatusWord.{StatusWord}
-use Rattle.status_word.specs.declared.status.Check.{Check}
-use Rattle.status_word.specs.declared.status.Check.TheVariants.{And, AndNot, Or, OrNot, Xor, XorNot}
+use Rattle.instruction_set.specs.declared.operation.Check.{Check}
+use Rattle.instruction_set.specs.declared.operation.Check.TheVariants.{And, AndNot, Or, OrNot, Xor, XorNot}
 use Rattle.status_word.specs.BitRows.{checked, bracket_row, or_row}
 use Rattle.bit_unit.specs.State.{BitState}
 use Rattle.bit_unit.specs.Steps.{Step, saved, closed_row, group_opened, group_closed}

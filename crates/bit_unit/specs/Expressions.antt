@@ -1,8 +1,8 @@
 -- Bracketed Boolean expressions, as statements and as what they say.
 use Rattle.std.specs.Prelude.{◌≡◌, ℕ, suc, ◌+◌, ◌<◌, ◌≤◌, max, length, Bool, true, false, not, ◌&&◌, ◌||◌, if◌then◌else◌, Ok, Err}
 use Rattle.status_word.specs.declared.status.StatusWord.{StatusWord}
-use Rattle.status_word.specs.declared.status.Check.{Check}
-use Rattle.status_word.specs.declared.status.Check.TheVariants.{And, AndNot, Or, OrNot, Xor, XorNot}
+use Rattle.instruction_set.specs.declared.operation.Check.{Check}
+use Rattle.instruction_set.specs.declared.operation.Check.TheVariants.{And, AndNot, Or, OrNot, Xor, XorNot}
 use Rattle.status_word.specs.BitRows.{checked, or_row, differ}
 use Rattle.bit_unit.specs.State.{BitState}
 use Rattle.bit_unit.specs.Steps.{Bits, Step, group_opened, group_closed}

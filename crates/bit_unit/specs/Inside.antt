@@ -1,7 +1,7 @@
 -- The fields of a bit unit, and the state that they stand for.
 use Rattle.std.specs.Prelude.{◌≡◌, ℕ, ◌-◌, ◌≤◌, false, List, ◌++◌, length, take, drop, replicate}
 use Rattle.std.proofs.Common.{ap, sym, ◌∙◌, arith, length-drop, take-append-drop}
-use Rattle.status_word.specs.declared.status.Check.TheVariants.{And}
+use Rattle.instruction_set.specs.declared.operation.Check.TheVariants.{And}
 use Rattle.bit_unit.specs.declared.group.Group.{Group}
 use Rattle.bit_unit.specs.declared.unit.BitUnit.TheInside.{Inside}
 use Rattle.bit_unit.specs.State.{BitState}

@@ -2,7 +2,7 @@
 use Rattle.std.specs.Prelude.{◌≡◌, Bool, true, not, ◌&&◌, nat_lt, if◌then◌else◌, List, [], ◌∷◌, length, Result, Ok, Err}
 use Rattle.std.specs.List.{list_any}
 use Rattle.status_word.specs.declared.status.StatusWord.{StatusWord}
-use Rattle.status_word.specs.declared.status.Check.{Check}
+use Rattle.instruction_set.specs.declared.operation.Check.{Check}
 use Rattle.status_word.specs.BitRows.{checked, bracket_row}
 use Rattle.bit_unit.specs.declared.group.Group.{Group}
 use Rattle.bit_unit.specs.declared.unit.BitFault.{BitFault}

@@ -1,5 +1,5 @@
 //! The laws of bracketed logic.
-ghost use Rattle.status_word.specs.declared.status.Check.{Check};
+ghost use Rattle.instruction_set.specs.declared.operation.Check.{Check};
 ghost use Rattle.bit_unit.specs.Expressions.{Expression, LeavesItsValue, IsTheCheckOf};
 
 /// A whole group, from its opening to its closing bracket, is a check of the value of the

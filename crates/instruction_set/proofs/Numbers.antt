@@ -1,166 +1,163 @@
 -- Each operation stands in the row of its number.
-use Rattle.std.proofs.Common.{◌≡◌, ◌+◌, refl, IsSomeAnd}
+use Rattle.std.proofs.Common.{◌≡◌, ◌+◌, ◌*◌, refl, IsSomeAnd}
 use denote.Enum.Declared.{tag_of}
-use Rattle.instruction_set.specs.declared.operation.Operation.TheVariants as groups
+use Rattle.instruction_set.specs.declared.operation.Operation.TheVariants as operations
 use Rattle.instruction_set.specs.Rows.{row_of}
-use Rattle.instruction_set.specs.declared.operation.Transfer.{Transfer}
-use Rattle.instruction_set.specs.declared.operation.Transfer.TheVariants as transfers
-use Rattle.instruction_set.specs.contracts.operation.Transfer as transfer_type
-use Rattle.instruction_set.specs.declared.operation.Arithmetic.{Arithmetic}
-use Rattle.instruction_set.specs.declared.operation.Arithmetic.TheVariants as arithmetics
-use Rattle.instruction_set.specs.contracts.operation.Arithmetic as arithmetic_type
-use Rattle.instruction_set.specs.declared.operation.Comparison.{Comparison}
-use Rattle.instruction_set.specs.declared.operation.Comparison.TheVariants as comparisons
-use Rattle.instruction_set.specs.contracts.operation.Comparison as comparison_type
-use Rattle.instruction_set.specs.declared.operation.WordLogic.{WordLogic}
-use Rattle.instruction_set.specs.declared.operation.WordLogic.TheVariants as wordlogics
-use Rattle.instruction_set.specs.contracts.operation.WordLogic as wordlogic_type
-use Rattle.instruction_set.specs.declared.operation.ShiftRotate.{ShiftRotate}
-use Rattle.instruction_set.specs.declared.operation.ShiftRotate.TheVariants as shiftrotates
-use Rattle.instruction_set.specs.contracts.operation.ShiftRotate as shiftrotate_type
-use Rattle.instruction_set.specs.declared.operation.Branch.{Branch}
-use Rattle.instruction_set.specs.declared.operation.Branch.TheVariants as branchs
-use Rattle.instruction_set.specs.contracts.operation.Branch as branch_type
-use Rattle.instruction_set.specs.declared.operation.TimerControl.{TimerControl}
-use Rattle.instruction_set.specs.declared.operation.TimerControl.TheVariants as timercontrols
-use Rattle.instruction_set.specs.contracts.operation.TimerControl as timercontrol_type
-use Rattle.instruction_set.specs.declared.operation.CounterControl.{CounterControl}
-use Rattle.instruction_set.specs.declared.operation.CounterControl.TheVariants as countercontrols
-use Rattle.instruction_set.specs.contracts.operation.CounterControl as countercontrol_type
-use Rattle.instruction_set.specs.declared.operation.BlockControl.{BlockControl}
-use Rattle.instruction_set.specs.declared.operation.BlockControl.TheVariants as blockcontrols
-use Rattle.instruction_set.specs.contracts.operation.BlockControl as blockcontrol_type
+use Rattle.instruction_set.specs.declared.operation.Check.{Check}
+use Rattle.instruction_set.specs.declared.operation.Check.TheVariants as checks
+use Rattle.instruction_set.specs.contracts.operation.Check as check_type
+use Rattle.instruction_set.specs.declared.operation.BitWrite.{BitWrite}
+use Rattle.instruction_set.specs.declared.operation.BitWrite.TheVariants as bit_writes
+use Rattle.instruction_set.specs.contracts.operation.BitWrite as bit_write_type
+use Rattle.instruction_set.specs.declared.operation.RloOperation.{RloOperation}
+use Rattle.instruction_set.specs.declared.operation.RloOperation.TheVariants as rlo_operations
+use Rattle.instruction_set.specs.contracts.operation.RloOperation as rlo_operation_type
+use Rattle.instruction_set.specs.declared.operation.Edge.{Edge}
+use Rattle.instruction_set.specs.declared.operation.Edge.TheVariants as edges
+use Rattle.instruction_set.specs.contracts.operation.Edge as edge_type
+use Rattle.instruction_set.specs.declared.operation.MasterControl.{MasterControl}
+use Rattle.instruction_set.specs.declared.operation.MasterControl.TheVariants as master_controls
+use Rattle.instruction_set.specs.contracts.operation.MasterControl as master_control_type
+use Rattle.instruction_set.specs.declared.operation.Num.{Num}
+use Rattle.instruction_set.specs.declared.operation.Num.TheVariants as nums
+use Rattle.instruction_set.specs.contracts.operation.Num as num_type
+use Rattle.instruction_set.specs.declared.operation.WordSize.{WordSize}
+use Rattle.instruction_set.specs.declared.operation.WordSize.TheVariants as word_sizes
+use Rattle.instruction_set.specs.contracts.operation.WordSize as word_size_type
+use Rattle.instruction_set.specs.declared.operation.TimerKind.{TimerKind}
+use Rattle.instruction_set.specs.declared.operation.TimerKind.TheVariants as timer_kinds
+use Rattle.instruction_set.specs.contracts.operation.TimerKind as timer_kind_type
+use Rattle.instruction_set.specs.declared.operation.BlockOperation.{BlockOperation}
+use Rattle.instruction_set.specs.declared.operation.BlockOperation.TheVariants as block_operations
+use Rattle.instruction_set.specs.contracts.operation.BlockOperation as block_operation_type
 use Rattle.instruction_set.specs.declared.operation.NoOperation.{NoOperation}
-use Rattle.instruction_set.specs.declared.operation.NoOperation.TheVariants as nooperations
-use Rattle.instruction_set.specs.contracts.operation.NoOperation as nooperation_type
+use Rattle.instruction_set.specs.declared.operation.NoOperation.TheVariants as no_operations
+use Rattle.instruction_set.specs.contracts.operation.NoOperation as no_operation_type
+use Rattle.instruction_set.specs.declared.operation.Cmp.{Cmp}
+use Rattle.instruction_set.specs.declared.operation.Cmp.TheVariants as cmps
+use Rattle.instruction_set.specs.contracts.operation.Cmp as cmp_type
+use Rattle.instruction_set.specs.declared.operation.Word.{Word}
+use Rattle.instruction_set.specs.declared.operation.Word.TheVariants as words
+use Rattle.instruction_set.specs.contracts.operation.Word as word_type
 
-pub transfer_stands : (operation : Transfer) → IsSomeAnd (row_of (27 + tag_of transfer_type.the_type operation)) (λ row. row.operation ≡ groups.Transfer operation)
+pub check_stands : (op : Check) → IsSomeAnd (row_of (tag_of check_type.the_type op)) (λ row. row.operation ≡ operations.Check op)
 unfolding row_of
-transfer_stands transfers.Load = refl
-transfer_stands transfers.Store = refl
-transfer_stands transfers.LoadCoded = refl
-transfer_stands transfers.Push = refl
-transfer_stands transfers.Pop = refl
-transfer_stands transfers.Enter = refl
-transfer_stands transfers.Leave = refl
-transfer_stands transfers.Toggle = refl
-transfer_stands transfers.SwapWord = refl
-transfer_stands transfers.SwapDouble = refl
-transfer_stands transfers.Increment = refl
-transfer_stands transfers.Decrement = refl
-transfer_stands transfers.AddConstant = refl
+check_stands checks.And = refl
+check_stands checks.AndNot = refl
+check_stands checks.Or = refl
+check_stands checks.OrNot = refl
+check_stands checks.Xor = refl
+check_stands checks.XorNot = refl
 
-pub arithmetic_stands : (operation : Arithmetic) → IsSomeAnd (row_of (40 + tag_of arithmetic_type.the_type operation)) (λ row. row.operation ≡ groups.Arithmetic operation)
+pub open_stands : (op : Check) → IsSomeAnd (row_of (7 + tag_of check_type.the_type op)) (λ row. row.operation ≡ operations.Open op)
 unfolding row_of
-arithmetic_stands arithmetics.AddInt = refl
-arithmetic_stands arithmetics.SubInt = refl
-arithmetic_stands arithmetics.MulInt = refl
-arithmetic_stands arithmetics.DivInt = refl
-arithmetic_stands arithmetics.AddDouble = refl
-arithmetic_stands arithmetics.SubDouble = refl
-arithmetic_stands arithmetics.MulDouble = refl
-arithmetic_stands arithmetics.DivDouble = refl
-arithmetic_stands arithmetics.Modulo = refl
-arithmetic_stands arithmetics.NegateInt = refl
-arithmetic_stands arithmetics.NegateDouble = refl
-arithmetic_stands arithmetics.InvertInt = refl
-arithmetic_stands arithmetics.InvertDouble = refl
-arithmetic_stands arithmetics.BcdToInt = refl
-arithmetic_stands arithmetics.IntToBcd = refl
-arithmetic_stands arithmetics.BcdToDouble = refl
-arithmetic_stands arithmetics.DoubleToBcd = refl
-arithmetic_stands arithmetics.IntToDouble = refl
+open_stands checks.And = refl
+open_stands checks.AndNot = refl
+open_stands checks.Or = refl
+open_stands checks.OrNot = refl
+open_stands checks.Xor = refl
+open_stands checks.XorNot = refl
 
-pub comparison_stands : (operation : Comparison) → IsSomeAnd (row_of (58 + tag_of comparison_type.the_type operation)) (λ row. row.operation ≡ groups.Comparison operation)
+pub write_stands : (op : BitWrite) → IsSomeAnd (row_of (14 + tag_of bit_write_type.the_type op)) (λ row. row.operation ≡ operations.Write op)
 unfolding row_of
-comparison_stands comparisons.EqualInt = refl
-comparison_stands comparisons.UnequalInt = refl
-comparison_stands comparisons.GreaterInt = refl
-comparison_stands comparisons.LessInt = refl
-comparison_stands comparisons.GreaterEqualInt = refl
-comparison_stands comparisons.LessEqualInt = refl
-comparison_stands comparisons.EqualDouble = refl
-comparison_stands comparisons.UnequalDouble = refl
-comparison_stands comparisons.GreaterDouble = refl
-comparison_stands comparisons.LessDouble = refl
-comparison_stands comparisons.GreaterEqualDouble = refl
-comparison_stands comparisons.LessEqualDouble = refl
+write_stands bit_writes.Assign = refl
+write_stands bit_writes.Set = refl
+write_stands bit_writes.Reset = refl
 
-pub word_logic_stands : (operation : WordLogic) → IsSomeAnd (row_of (70 + tag_of wordlogic_type.the_type operation)) (λ row. row.operation ≡ groups.WordLogic operation)
+pub rlo_stands : (op : RloOperation) → IsSomeAnd (row_of (17 + tag_of rlo_operation_type.the_type op)) (λ row. row.operation ≡ operations.Rlo op)
 unfolding row_of
-word_logic_stands wordlogics.AndWord = refl
-word_logic_stands wordlogics.OrWord = refl
-word_logic_stands wordlogics.XorWord = refl
-word_logic_stands wordlogics.AndDouble = refl
-word_logic_stands wordlogics.OrDouble = refl
-word_logic_stands wordlogics.XorDouble = refl
+rlo_stands rlo_operations.NegateRlo = refl
+rlo_stands rlo_operations.SetRlo = refl
+rlo_stands rlo_operations.ClearRlo = refl
+rlo_stands rlo_operations.SaveRlo = refl
 
-pub shift_rotate_stands : (operation : ShiftRotate) → IsSomeAnd (row_of (76 + tag_of shiftrotate_type.the_type operation)) (λ row. row.operation ≡ groups.ShiftRotate operation)
+pub edge_stands : (op : Edge) → IsSomeAnd (row_of (21 + tag_of edge_type.the_type op)) (λ row. row.operation ≡ operations.Edge op)
 unfolding row_of
-shift_rotate_stands shiftrotates.ShiftInt = refl
-shift_rotate_stands shiftrotates.ShiftLeftWord = refl
-shift_rotate_stands shiftrotates.ShiftRightWord = refl
-shift_rotate_stands shiftrotates.ShiftDouble = refl
-shift_rotate_stands shiftrotates.ShiftLeftDouble = refl
-shift_rotate_stands shiftrotates.ShiftRightDouble = refl
-shift_rotate_stands shiftrotates.RotateLeft = refl
-shift_rotate_stands shiftrotates.RotateRight = refl
+edge_stands edges.Rising = refl
+edge_stands edges.Falling = refl
 
-pub branch_stands : (operation : Branch) → IsSomeAnd (row_of (84 + tag_of branch_type.the_type operation)) (λ row. row.operation ≡ groups.Branch operation)
+pub master_control_stands : (op : MasterControl) → IsSomeAnd (row_of (23 + tag_of master_control_type.the_type op)) (λ row. row.operation ≡ operations.MasterControl op)
 unfolding row_of
-branch_stands branchs.Ju = refl
-branch_stands branchs.Jl = refl
-branch_stands branchs.Jc = refl
-branch_stands branchs.Jcn = refl
-branch_stands branchs.Jcb = refl
-branch_stands branchs.Jnb = refl
-branch_stands branchs.Jbi = refl
-branch_stands branchs.Jnbi = refl
-branch_stands branchs.Jo = refl
-branch_stands branchs.Jos = refl
-branch_stands branchs.Jz = refl
-branch_stands branchs.Jn = refl
-branch_stands branchs.Jp = refl
-branch_stands branchs.Jm = refl
-branch_stands branchs.Jpz = refl
-branch_stands branchs.Jmz = refl
-branch_stands branchs.Juo = refl
-branch_stands branchs.Loop = refl
+master_control_stands master_controls.Activate = refl
+master_control_stands master_controls.Deactivate = refl
+master_control_stands master_controls.OpenZone = refl
+master_control_stands master_controls.CloseZone = refl
 
-pub timer_control_stands : (operation : TimerControl) → IsSomeAnd (row_of (102 + tag_of timercontrol_type.the_type operation)) (λ row. row.operation ≡ groups.TimerControl operation)
+pub number_stands : (op : Num) → IsSomeAnd (row_of (40 + tag_of num_type.the_type op)) (λ row. row.operation ≡ operations.Number op)
 unfolding row_of
-timer_control_stands timercontrols.Sp = refl
-timer_control_stands timercontrols.Se = refl
-timer_control_stands timercontrols.Sd = refl
-timer_control_stands timercontrols.Ss = refl
-timer_control_stands timercontrols.Sf = refl
-timer_control_stands timercontrols.Fr = refl
+number_stands nums.AddI = refl
+number_stands nums.SubI = refl
+number_stands nums.MulI = refl
+number_stands nums.DivI = refl
+number_stands nums.AddD = refl
+number_stands nums.SubD = refl
+number_stands nums.MulD = refl
+number_stands nums.DivD = refl
+number_stands nums.ModD = refl
+number_stands nums.NegI = refl
+number_stands nums.NegD = refl
 
-pub counter_control_stands : (operation : CounterControl) → IsSomeAnd (row_of (108 + tag_of countercontrol_type.the_type operation)) (λ row. row.operation ≡ groups.CounterControl operation)
+pub from_bcd_stands : (op : WordSize) → IsSomeAnd (row_of (53 + 2 * tag_of word_size_type.the_type op)) (λ row. row.operation ≡ operations.FromBcd op)
 unfolding row_of
-counter_control_stands countercontrols.Cu = refl
-counter_control_stands countercontrols.Cd = refl
-counter_control_stands countercontrols.Fr = refl
+from_bcd_stands word_sizes.Word = refl
+from_bcd_stands word_sizes.DoubleWord = refl
 
-pub block_control_stands : (operation : BlockControl) → IsSomeAnd (row_of (111 + tag_of blockcontrol_type.the_type operation)) (λ row. row.operation ≡ groups.BlockControl operation)
+pub to_bcd_stands : (op : WordSize) → IsSomeAnd (row_of (54 + 2 * tag_of word_size_type.the_type op)) (λ row. row.operation ≡ operations.ToBcd op)
 unfolding row_of
-block_control_stands blockcontrols.OpenData = refl
-block_control_stands blockcontrols.OpenInstance = refl
-block_control_stands blockcontrols.SwapData = refl
-block_control_stands blockcontrols.CallFunction = refl
-block_control_stands blockcontrols.CallWithInstance = refl
-block_control_stands blockcontrols.CallRetrigger = refl
-block_control_stands blockcontrols.CallStop = refl
-block_control_stands blockcontrols.EnterFunction = refl
-block_control_stands blockcontrols.EnterFunctionBlock = refl
-block_control_stands blockcontrols.TryFunction = refl
-block_control_stands blockcontrols.TryFunctionBlock = refl
-block_control_stands blockcontrols.End = refl
-block_control_stands blockcontrols.EndConditional = refl
-block_control_stands blockcontrols.EndUnconditional = refl
+to_bcd_stands word_sizes.Word = refl
+to_bcd_stands word_sizes.DoubleWord = refl
 
-pub no_operation_stands : (operation : NoOperation) → IsSomeAnd (row_of (125 + tag_of nooperation_type.the_type operation)) (λ row. row.operation ≡ groups.NoOperation operation)
+pub start_timer_stands : (op : TimerKind) → IsSomeAnd (row_of (102 + tag_of timer_kind_type.the_type op)) (λ row. row.operation ≡ operations.StartTimer op)
 unfolding row_of
-no_operation_stands nooperations.Nop0 = refl
-no_operation_stands nooperations.Nop1 = refl
-no_operation_stands nooperations.Bld = refl
+start_timer_stands timer_kinds.Sp = refl
+start_timer_stands timer_kinds.Se = refl
+start_timer_stands timer_kinds.Sd = refl
+start_timer_stands timer_kinds.Ss = refl
+start_timer_stands timer_kinds.Sf = refl
+
+pub block_stands : (op : BlockOperation) → IsSomeAnd (row_of (111 + tag_of block_operation_type.the_type op)) (λ row. row.operation ≡ operations.Block op)
+unfolding row_of
+block_stands block_operations.OpenData = refl
+block_stands block_operations.OpenInstance = refl
+block_stands block_operations.ExchangeData = refl
+block_stands block_operations.CallFunction = refl
+block_stands block_operations.CallFunctionBlock = refl
+block_stands block_operations.CallRetrigger = refl
+block_stands block_operations.CallStop = refl
+block_stands block_operations.UnconditionalCallFunction = refl
+block_stands block_operations.UnconditionalCallFunctionBlock = refl
+block_stands block_operations.ConditionalCallFunction = refl
+block_stands block_operations.ConditionalCallFunctionBlock = refl
+block_stands block_operations.End = refl
+block_stands block_operations.ConditionalEnd = refl
+block_stands block_operations.UnconditionalEnd = refl
+
+pub no_operation_stands : (op : NoOperation) → IsSomeAnd (row_of (125 + tag_of no_operation_type.the_type op)) (λ row. row.operation ≡ operations.NoOperation op)
+unfolding row_of
+no_operation_stands no_operations.Nop0 = refl
+no_operation_stands no_operations.Nop1 = refl
+no_operation_stands no_operations.Display = refl
+
+pub compare_stands : (op : Cmp) (size : WordSize) → IsSomeAnd (row_of (58 + tag_of cmp_type.the_type op + 6 * tag_of word_size_type.the_type size)) (λ row. row.operation ≡ operations.Compare op size)
+unfolding row_of
+compare_stands cmps.Eq word_sizes.Word = refl
+compare_stands cmps.Eq word_sizes.DoubleWord = refl
+compare_stands cmps.Ne word_sizes.Word = refl
+compare_stands cmps.Ne word_sizes.DoubleWord = refl
+compare_stands cmps.Gt word_sizes.Word = refl
+compare_stands cmps.Gt word_sizes.DoubleWord = refl
+compare_stands cmps.Lt word_sizes.Word = refl
+compare_stands cmps.Lt word_sizes.DoubleWord = refl
+compare_stands cmps.Ge word_sizes.Word = refl
+compare_stands cmps.Ge word_sizes.DoubleWord = refl
+compare_stands cmps.Le word_sizes.Word = refl
+compare_stands cmps.Le word_sizes.DoubleWord = refl
+
+pub word_logic_stands : (op : Word) (size : WordSize) → IsSomeAnd (row_of (70 + tag_of word_type.the_type op + 3 * tag_of word_size_type.the_type size)) (λ row. row.operation ≡ operations.WordLogic op size)
+unfolding row_of
+word_logic_stands words.And word_sizes.Word = refl
+word_logic_stands words.And word_sizes.DoubleWord = refl
+word_logic_stands words.Or word_sizes.Word = refl
+word_logic_stands words.Or word_sizes.DoubleWord = refl
+word_logic_stands words.Xor word_sizes.Word = refl
+word_logic_stands words.Xor word_sizes.DoubleWord = refl

@@ -7,20 +7,24 @@ use Rattle.instruction_set.specs.declared.table.InstructionRow.{InstructionRow}
 use Rattle.instruction_set.specs.declared.operands.OperandKind.{OperandKind}
 use Rattle.instruction_set.specs.declared.operands.OperandKind.TheVariants as kinds
 use Rattle.instruction_set.specs.declared.operation.Operation.{Operation}
-use Rattle.instruction_set.specs.declared.operation.Operation.TheVariants as groups
-use Rattle.instruction_set.specs.declared.operation.BitLogic.TheVariants as bits
-use Rattle.instruction_set.specs.declared.operation.Transfer.TheVariants as moves
-use Rattle.instruction_set.specs.declared.operation.Arithmetic.TheVariants as integers
-use Rattle.instruction_set.specs.declared.operation.Comparison.TheVariants as compares
-use Rattle.instruction_set.specs.declared.operation.WordLogic.TheVariants as word_logic
-use Rattle.instruction_set.specs.declared.operation.ShiftRotate.TheVariants as moved
-use Rattle.instruction_set.specs.declared.operation.Branch.TheVariants as branches
-use Rattle.instruction_set.specs.declared.operation.TimerControl.TheVariants as timing
-use Rattle.instruction_set.specs.declared.operation.CounterControl.TheVariants as counting
-use Rattle.instruction_set.specs.declared.operation.BlockControl.TheVariants as control
+use Rattle.instruction_set.specs.declared.operation.Operation.TheVariants as operations
+use Rattle.instruction_set.specs.declared.operation.Check.TheVariants as checks
+use Rattle.instruction_set.specs.declared.operation.BitWrite.TheVariants as writes
+use Rattle.instruction_set.specs.declared.operation.RloOperation.TheVariants as rlo
+use Rattle.instruction_set.specs.declared.operation.Edge.TheVariants as edges
+use Rattle.instruction_set.specs.declared.operation.MasterControl.TheVariants as zones
+use Rattle.instruction_set.specs.declared.operation.Move.TheVariants as moves
+use Rattle.instruction_set.specs.declared.operation.Num.TheVariants as integers
+use Rattle.instruction_set.specs.declared.operation.WordSize.TheVariants as sizes
+use Rattle.instruction_set.specs.declared.operation.Cmp.TheVariants as relations
+use Rattle.instruction_set.specs.declared.operation.Word.TheVariants as word_logic
+use Rattle.instruction_set.specs.declared.operation.Shift.TheVariants as shifted
+use Rattle.instruction_set.specs.declared.operation.Jump.TheVariants as jumped
+use Rattle.instruction_set.specs.declared.operation.TimerKind.TheVariants as timing
+use Rattle.instruction_set.specs.declared.operation.BlockOperation.TheVariants as control
 use Rattle.instruction_set.specs.declared.operation.NoOperation.TheVariants as idle
 
--- letters in a field of so many bytes: the bytes behind them are 0
+-- letters in a field of n bytes, zero-padded
 abbrev pub in_field : ℕ → List ℕ → List ℕ
 in_field size letters = letters ++ replicate (size - length letters) 0
 
@@ -31,184 +35,184 @@ entry mnemonic operation operand = record { operation = operation; mnemonic = in
 -- bit logic
 abbrev pub bit_logic : List InstructionRow
 bit_logic =
-    entry "A" (groups.BitLogic bits.And) kinds.CheckedBit
-    ∷ entry "AN" (groups.BitLogic bits.AndNot) kinds.CheckedBit
-    ∷ entry "O" (groups.BitLogic bits.Or) kinds.CheckedBit
-    ∷ entry "ON" (groups.BitLogic bits.OrNot) kinds.CheckedBit
-    ∷ entry "X" (groups.BitLogic bits.Xor) kinds.CheckedBit
-    ∷ entry "XN" (groups.BitLogic bits.XorNot) kinds.CheckedBit
-    ∷ entry "O" (groups.BitLogic bits.OrAlone) kinds.Nothing
-    ∷ entry "A(" (groups.BitLogic bits.AndOpen) kinds.Nothing
-    ∷ entry "AN(" (groups.BitLogic bits.AndNotOpen) kinds.Nothing
-    ∷ entry "O(" (groups.BitLogic bits.OrOpen) kinds.Nothing
-    ∷ entry "ON(" (groups.BitLogic bits.OrNotOpen) kinds.Nothing
-    ∷ entry "X(" (groups.BitLogic bits.XorOpen) kinds.Nothing
-    ∷ entry "XN(" (groups.BitLogic bits.XorNotOpen) kinds.Nothing
-    ∷ entry ")" (groups.BitLogic bits.Close) kinds.Nothing
-    ∷ entry "=" (groups.BitLogic bits.Assign) kinds.WrittenBit
-    ∷ entry "S" (groups.BitLogic bits.Set) kinds.SetBit
-    ∷ entry "R" (groups.BitLogic bits.Reset) kinds.ResetBit
-    ∷ entry "NOT" (groups.BitLogic bits.Invert) kinds.Nothing
-    ∷ entry "SET" (groups.BitLogic bits.SetRlo) kinds.Nothing
-    ∷ entry "CLR" (groups.BitLogic bits.ClearRlo) kinds.Nothing
-    ∷ entry "SAVE" (groups.BitLogic bits.SaveRlo) kinds.Nothing
-    ∷ entry "FP" (groups.BitLogic bits.RisingEdge) kinds.WrittenBit
-    ∷ entry "FN" (groups.BitLogic bits.FallingEdge) kinds.WrittenBit
-    ∷ entry "MCRA" (groups.BitLogic bits.ActivateMcr) kinds.Nothing
-    ∷ entry "MCRD" (groups.BitLogic bits.DeactivateMcr) kinds.Nothing
-    ∷ entry "MCR(" (groups.BitLogic bits.OpenMcr) kinds.Nothing
-    ∷ entry ")MCR" (groups.BitLogic bits.CloseMcr) kinds.Nothing
+    entry "A" (operations.Check checks.And) kinds.CheckedBit
+    ∷ entry "AN" (operations.Check checks.AndNot) kinds.CheckedBit
+    ∷ entry "O" (operations.Check checks.Or) kinds.CheckedBit
+    ∷ entry "ON" (operations.Check checks.OrNot) kinds.CheckedBit
+    ∷ entry "X" (operations.Check checks.Xor) kinds.CheckedBit
+    ∷ entry "XN" (operations.Check checks.XorNot) kinds.CheckedBit
+    ∷ entry "O" operations.AndBeforeOr kinds.Nothing
+    ∷ entry "A(" (operations.Open checks.And) kinds.Nothing
+    ∷ entry "AN(" (operations.Open checks.AndNot) kinds.Nothing
+    ∷ entry "O(" (operations.Open checks.Or) kinds.Nothing
+    ∷ entry "ON(" (operations.Open checks.OrNot) kinds.Nothing
+    ∷ entry "X(" (operations.Open checks.Xor) kinds.Nothing
+    ∷ entry "XN(" (operations.Open checks.XorNot) kinds.Nothing
+    ∷ entry ")" operations.Close kinds.Nothing
+    ∷ entry "=" (operations.Write writes.Assign) kinds.WrittenBit
+    ∷ entry "S" (operations.Write writes.Set) kinds.SetBit
+    ∷ entry "R" (operations.Write writes.Reset) kinds.ResetBit
+    ∷ entry "NOT" (operations.Rlo rlo.NegateRlo) kinds.Nothing
+    ∷ entry "SET" (operations.Rlo rlo.SetRlo) kinds.Nothing
+    ∷ entry "CLR" (operations.Rlo rlo.ClearRlo) kinds.Nothing
+    ∷ entry "SAVE" (operations.Rlo rlo.SaveRlo) kinds.Nothing
+    ∷ entry "FP" (operations.Edge edges.Rising) kinds.WrittenBit
+    ∷ entry "FN" (operations.Edge edges.Falling) kinds.WrittenBit
+    ∷ entry "MCRA" (operations.MasterControl zones.Activate) kinds.Nothing
+    ∷ entry "MCRD" (operations.MasterControl zones.Deactivate) kinds.Nothing
+    ∷ entry "MCR(" (operations.MasterControl zones.OpenZone) kinds.Nothing
+    ∷ entry ")MCR" (operations.MasterControl zones.CloseZone) kinds.Nothing
     ∷ []
 
 -- load and transfer, and moves between the accumulators
 abbrev pub load_and_transfer : List InstructionRow
 load_and_transfer =
-    entry "L" (groups.Transfer moves.Load) kinds.Loaded
-    ∷ entry "T" (groups.Transfer moves.Store) kinds.Stored
-    ∷ entry "LC" (groups.Transfer moves.LoadCoded) kinds.Coded
-    ∷ entry "PUSH" (groups.Transfer moves.Push) kinds.Nothing
-    ∷ entry "POP" (groups.Transfer moves.Pop) kinds.Nothing
-    ∷ entry "ENT" (groups.Transfer moves.Enter) kinds.Nothing
-    ∷ entry "LEAVE" (groups.Transfer moves.Leave) kinds.Nothing
-    ∷ entry "TAK" (groups.Transfer moves.Toggle) kinds.Nothing
-    ∷ entry "CAW" (groups.Transfer moves.SwapWord) kinds.Nothing
-    ∷ entry "CAD" (groups.Transfer moves.SwapDouble) kinds.Nothing
-    ∷ entry "INC" (groups.Transfer moves.Increment) (kinds.UpTo 255)
-    ∷ entry "DEC" (groups.Transfer moves.Decrement) (kinds.UpTo 255)
-    ∷ entry "+" (groups.Transfer moves.AddConstant) kinds.Addend
+    entry "L" operations.Load kinds.Loaded
+    ∷ entry "T" operations.Transfer kinds.Stored
+    ∷ entry "LC" operations.LoadCoded kinds.Coded
+    ∷ entry "PUSH" (operations.Move moves.Push) kinds.Nothing
+    ∷ entry "POP" (operations.Move moves.Pop) kinds.Nothing
+    ∷ entry "ENT" (operations.Move moves.Ent) kinds.Nothing
+    ∷ entry "LEAVE" (operations.Move moves.Leave) kinds.Nothing
+    ∷ entry "TAK" (operations.Move moves.Tak) kinds.Nothing
+    ∷ entry "CAW" (operations.Move moves.Caw) kinds.Nothing
+    ∷ entry "CAD" (operations.Move moves.Cad) kinds.Nothing
+    ∷ entry "INC" operations.Increment (kinds.UpTo 255)
+    ∷ entry "DEC" operations.Decrement (kinds.UpTo 255)
+    ∷ entry "+" operations.AddConstant kinds.Addend
     ∷ []
 
 -- arithmetic and conversions of integers
 abbrev pub numbers : List InstructionRow
 numbers =
-    entry "+I" (groups.Arithmetic integers.AddInt) kinds.Nothing
-    ∷ entry "-I" (groups.Arithmetic integers.SubInt) kinds.Nothing
-    ∷ entry "*I" (groups.Arithmetic integers.MulInt) kinds.Nothing
-    ∷ entry "/I" (groups.Arithmetic integers.DivInt) kinds.Nothing
-    ∷ entry "+D" (groups.Arithmetic integers.AddDouble) kinds.Nothing
-    ∷ entry "-D" (groups.Arithmetic integers.SubDouble) kinds.Nothing
-    ∷ entry "*D" (groups.Arithmetic integers.MulDouble) kinds.Nothing
-    ∷ entry "/D" (groups.Arithmetic integers.DivDouble) kinds.Nothing
-    ∷ entry "MOD" (groups.Arithmetic integers.Modulo) kinds.Nothing
-    ∷ entry "NEGI" (groups.Arithmetic integers.NegateInt) kinds.Nothing
-    ∷ entry "NEGD" (groups.Arithmetic integers.NegateDouble) kinds.Nothing
-    ∷ entry "INVI" (groups.Arithmetic integers.InvertInt) kinds.Nothing
-    ∷ entry "INVD" (groups.Arithmetic integers.InvertDouble) kinds.Nothing
-    ∷ entry "BTI" (groups.Arithmetic integers.BcdToInt) kinds.Nothing
-    ∷ entry "ITB" (groups.Arithmetic integers.IntToBcd) kinds.Nothing
-    ∷ entry "BTD" (groups.Arithmetic integers.BcdToDouble) kinds.Nothing
-    ∷ entry "DTB" (groups.Arithmetic integers.DoubleToBcd) kinds.Nothing
-    ∷ entry "ITD" (groups.Arithmetic integers.IntToDouble) kinds.Nothing
+    entry "+I" (operations.Number integers.AddI) kinds.Nothing
+    ∷ entry "-I" (operations.Number integers.SubI) kinds.Nothing
+    ∷ entry "*I" (operations.Number integers.MulI) kinds.Nothing
+    ∷ entry "/I" (operations.Number integers.DivI) kinds.Nothing
+    ∷ entry "+D" (operations.Number integers.AddD) kinds.Nothing
+    ∷ entry "-D" (operations.Number integers.SubD) kinds.Nothing
+    ∷ entry "*D" (operations.Number integers.MulD) kinds.Nothing
+    ∷ entry "/D" (operations.Number integers.DivD) kinds.Nothing
+    ∷ entry "MOD" (operations.Number integers.ModD) kinds.Nothing
+    ∷ entry "NEGI" (operations.Number integers.NegI) kinds.Nothing
+    ∷ entry "NEGD" (operations.Number integers.NegD) kinds.Nothing
+    ∷ entry "INVI" (operations.Move moves.Invi) kinds.Nothing
+    ∷ entry "INVD" (operations.Move moves.Invd) kinds.Nothing
+    ∷ entry "BTI" (operations.FromBcd sizes.Word) kinds.Nothing
+    ∷ entry "ITB" (operations.ToBcd sizes.Word) kinds.Nothing
+    ∷ entry "BTD" (operations.FromBcd sizes.DoubleWord) kinds.Nothing
+    ∷ entry "DTB" (operations.ToBcd sizes.DoubleWord) kinds.Nothing
+    ∷ entry "ITD" (operations.Move moves.Itd) kinds.Nothing
     ∷ []
 
 -- comparisons
 abbrev pub comparisons : List InstructionRow
 comparisons =
-    entry "==I" (groups.Comparison compares.EqualInt) kinds.Nothing
-    ∷ entry "<>I" (groups.Comparison compares.UnequalInt) kinds.Nothing
-    ∷ entry ">I" (groups.Comparison compares.GreaterInt) kinds.Nothing
-    ∷ entry "<I" (groups.Comparison compares.LessInt) kinds.Nothing
-    ∷ entry ">=I" (groups.Comparison compares.GreaterEqualInt) kinds.Nothing
-    ∷ entry "<=I" (groups.Comparison compares.LessEqualInt) kinds.Nothing
-    ∷ entry "==D" (groups.Comparison compares.EqualDouble) kinds.Nothing
-    ∷ entry "<>D" (groups.Comparison compares.UnequalDouble) kinds.Nothing
-    ∷ entry ">D" (groups.Comparison compares.GreaterDouble) kinds.Nothing
-    ∷ entry "<D" (groups.Comparison compares.LessDouble) kinds.Nothing
-    ∷ entry ">=D" (groups.Comparison compares.GreaterEqualDouble) kinds.Nothing
-    ∷ entry "<=D" (groups.Comparison compares.LessEqualDouble) kinds.Nothing
+    entry "==I" (operations.Compare relations.Eq sizes.Word) kinds.Nothing
+    ∷ entry "<>I" (operations.Compare relations.Ne sizes.Word) kinds.Nothing
+    ∷ entry ">I" (operations.Compare relations.Gt sizes.Word) kinds.Nothing
+    ∷ entry "<I" (operations.Compare relations.Lt sizes.Word) kinds.Nothing
+    ∷ entry ">=I" (operations.Compare relations.Ge sizes.Word) kinds.Nothing
+    ∷ entry "<=I" (operations.Compare relations.Le sizes.Word) kinds.Nothing
+    ∷ entry "==D" (operations.Compare relations.Eq sizes.DoubleWord) kinds.Nothing
+    ∷ entry "<>D" (operations.Compare relations.Ne sizes.DoubleWord) kinds.Nothing
+    ∷ entry ">D" (operations.Compare relations.Gt sizes.DoubleWord) kinds.Nothing
+    ∷ entry "<D" (operations.Compare relations.Lt sizes.DoubleWord) kinds.Nothing
+    ∷ entry ">=D" (operations.Compare relations.Ge sizes.DoubleWord) kinds.Nothing
+    ∷ entry "<=D" (operations.Compare relations.Le sizes.DoubleWord) kinds.Nothing
     ∷ []
 
 -- logic of words: alone, or with a constant of 16 or of 32 bits
 abbrev pub words : List InstructionRow
 words =
-    entry "AW" (groups.WordLogic word_logic.AndWord) (kinds.AtMost 65535)
-    ∷ entry "OW" (groups.WordLogic word_logic.OrWord) (kinds.AtMost 65535)
-    ∷ entry "XOW" (groups.WordLogic word_logic.XorWord) (kinds.AtMost 65535)
-    ∷ entry "AD" (groups.WordLogic word_logic.AndDouble) kinds.Mask
-    ∷ entry "OD" (groups.WordLogic word_logic.OrDouble) kinds.Mask
-    ∷ entry "XOD" (groups.WordLogic word_logic.XorDouble) kinds.Mask
+    entry "AW" (operations.WordLogic word_logic.And sizes.Word) (kinds.AtMost 65535)
+    ∷ entry "OW" (operations.WordLogic word_logic.Or sizes.Word) (kinds.AtMost 65535)
+    ∷ entry "XOW" (operations.WordLogic word_logic.Xor sizes.Word) (kinds.AtMost 65535)
+    ∷ entry "AD" (operations.WordLogic word_logic.And sizes.DoubleWord) kinds.Mask
+    ∷ entry "OD" (operations.WordLogic word_logic.Or sizes.DoubleWord) kinds.Mask
+    ∷ entry "XOD" (operations.WordLogic word_logic.Xor sizes.DoubleWord) kinds.Mask
     ∷ []
 
 -- shifts: alone, or with a count up to 15 for words, and up to 32 for double words
 abbrev pub shifts : List InstructionRow
 shifts =
-    entry "SSI" (groups.ShiftRotate moved.ShiftInt) (kinds.AtMost 15)
-    ∷ entry "SLW" (groups.ShiftRotate moved.ShiftLeftWord) (kinds.AtMost 15)
-    ∷ entry "SRW" (groups.ShiftRotate moved.ShiftRightWord) (kinds.AtMost 15)
-    ∷ entry "SSD" (groups.ShiftRotate moved.ShiftDouble) (kinds.AtMost 32)
-    ∷ entry "SLD" (groups.ShiftRotate moved.ShiftLeftDouble) (kinds.AtMost 32)
-    ∷ entry "SRD" (groups.ShiftRotate moved.ShiftRightDouble) (kinds.AtMost 32)
-    ∷ entry "RLD" (groups.ShiftRotate moved.RotateLeft) (kinds.AtMost 32)
-    ∷ entry "RRD" (groups.ShiftRotate moved.RotateRight) (kinds.AtMost 32)
+    entry "SSI" (operations.Shift shifted.Ssi) (kinds.AtMost 15)
+    ∷ entry "SLW" (operations.Shift shifted.Slw) (kinds.AtMost 15)
+    ∷ entry "SRW" (operations.Shift shifted.Srw) (kinds.AtMost 15)
+    ∷ entry "SSD" (operations.Shift shifted.Ssd) (kinds.AtMost 32)
+    ∷ entry "SLD" (operations.Shift shifted.Sld) (kinds.AtMost 32)
+    ∷ entry "SRD" (operations.Shift shifted.Srd) (kinds.AtMost 32)
+    ∷ entry "RLD" (operations.Shift shifted.Rld) (kinds.AtMost 32)
+    ∷ entry "RRD" (operations.Shift shifted.Rrd) (kinds.AtMost 32)
     ∷ []
 
 -- jumps
 abbrev pub jumps : List InstructionRow
 jumps =
-    entry "JU" (groups.Branch branches.Ju) kinds.Target
-    ∷ entry "JL" (groups.Branch branches.Jl) kinds.Target
-    ∷ entry "JC" (groups.Branch branches.Jc) kinds.Target
-    ∷ entry "JCN" (groups.Branch branches.Jcn) kinds.Target
-    ∷ entry "JCB" (groups.Branch branches.Jcb) kinds.Target
-    ∷ entry "JNB" (groups.Branch branches.Jnb) kinds.Target
-    ∷ entry "JBI" (groups.Branch branches.Jbi) kinds.Target
-    ∷ entry "JNBI" (groups.Branch branches.Jnbi) kinds.Target
-    ∷ entry "JO" (groups.Branch branches.Jo) kinds.Target
-    ∷ entry "JOS" (groups.Branch branches.Jos) kinds.Target
-    ∷ entry "JZ" (groups.Branch branches.Jz) kinds.Target
-    ∷ entry "JN" (groups.Branch branches.Jn) kinds.Target
-    ∷ entry "JP" (groups.Branch branches.Jp) kinds.Target
-    ∷ entry "JM" (groups.Branch branches.Jm) kinds.Target
-    ∷ entry "JPZ" (groups.Branch branches.Jpz) kinds.Target
-    ∷ entry "JMZ" (groups.Branch branches.Jmz) kinds.Target
-    ∷ entry "JUO" (groups.Branch branches.Juo) kinds.Target
-    ∷ entry "LOOP" (groups.Branch branches.Loop) kinds.Target
+    entry "JU" (operations.Jump jumped.Ju) kinds.Target
+    ∷ entry "JL" operations.JumpList kinds.Target
+    ∷ entry "JC" (operations.Jump jumped.Jc) kinds.Target
+    ∷ entry "JCN" (operations.Jump jumped.Jcn) kinds.Target
+    ∷ entry "JCB" (operations.Jump jumped.Jcb) kinds.Target
+    ∷ entry "JNB" (operations.Jump jumped.Jnb) kinds.Target
+    ∷ entry "JBI" (operations.Jump jumped.Jbi) kinds.Target
+    ∷ entry "JNBI" (operations.Jump jumped.Jnbi) kinds.Target
+    ∷ entry "JO" (operations.Jump jumped.Jo) kinds.Target
+    ∷ entry "JOS" (operations.Jump jumped.Jos) kinds.Target
+    ∷ entry "JZ" (operations.Jump jumped.Jz) kinds.Target
+    ∷ entry "JN" (operations.Jump jumped.Jn) kinds.Target
+    ∷ entry "JP" (operations.Jump jumped.Jp) kinds.Target
+    ∷ entry "JM" (operations.Jump jumped.Jm) kinds.Target
+    ∷ entry "JPZ" (operations.Jump jumped.Jpz) kinds.Target
+    ∷ entry "JMZ" (operations.Jump jumped.Jmz) kinds.Target
+    ∷ entry "JUO" (operations.Jump jumped.Juo) kinds.Target
+    ∷ entry "LOOP" operations.Loop kinds.Target
     ∷ []
 
 -- timers
 abbrev pub timers : List InstructionRow
 timers =
-    entry "SP" (groups.TimerControl timing.Sp) kinds.Timer
-    ∷ entry "SE" (groups.TimerControl timing.Se) kinds.Timer
-    ∷ entry "SD" (groups.TimerControl timing.Sd) kinds.Timer
-    ∷ entry "SS" (groups.TimerControl timing.Ss) kinds.Timer
-    ∷ entry "SF" (groups.TimerControl timing.Sf) kinds.Timer
-    ∷ entry "FR" (groups.TimerControl timing.Fr) kinds.Timer
+    entry "SP" (operations.StartTimer timing.Sp) kinds.Timer
+    ∷ entry "SE" (operations.StartTimer timing.Se) kinds.Timer
+    ∷ entry "SD" (operations.StartTimer timing.Sd) kinds.Timer
+    ∷ entry "SS" (operations.StartTimer timing.Ss) kinds.Timer
+    ∷ entry "SF" (operations.StartTimer timing.Sf) kinds.Timer
+    ∷ entry "FR" operations.EnableTimer kinds.Timer
     ∷ []
 
 -- counters
 abbrev pub counters : List InstructionRow
 counters =
-    entry "CU" (groups.CounterControl counting.Cu) kinds.Counter
-    ∷ entry "CD" (groups.CounterControl counting.Cd) kinds.Counter
-    ∷ entry "FR" (groups.CounterControl counting.Fr) kinds.Counter
+    entry "CU" operations.CountUp kinds.Counter
+    ∷ entry "CD" operations.CountDown kinds.Counter
+    ∷ entry "FR" operations.EnableCounter kinds.Counter
     ∷ []
 
 -- data blocks, calls, and ends of blocks
 abbrev pub blocks : List InstructionRow
 blocks =
-    entry "OPN" (groups.BlockControl control.OpenData) kinds.DataBlock
-    ∷ entry "OPN" (groups.BlockControl control.OpenInstance) kinds.InstanceBlock
-    ∷ entry "CDB" (groups.BlockControl control.SwapData) kinds.Nothing
-    ∷ entry "CALL" (groups.BlockControl control.CallFunction) kinds.Function
-    ∷ entry "CALL" (groups.BlockControl control.CallWithInstance) kinds.FunctionBlockWithData
-    ∷ entry "CALL" (groups.BlockControl control.CallRetrigger) (kinds.SystemFunction 43)
-    ∷ entry "CALL" (groups.BlockControl control.CallStop) (kinds.SystemFunction 46)
-    ∷ entry "UC" (groups.BlockControl control.EnterFunction) kinds.Function
-    ∷ entry "UC" (groups.BlockControl control.EnterFunctionBlock) kinds.FunctionBlock
-    ∷ entry "CC" (groups.BlockControl control.TryFunction) kinds.Function
-    ∷ entry "CC" (groups.BlockControl control.TryFunctionBlock) kinds.FunctionBlock
-    ∷ entry "BE" (groups.BlockControl control.End) kinds.Nothing
-    ∷ entry "BEC" (groups.BlockControl control.EndConditional) kinds.Nothing
-    ∷ entry "BEU" (groups.BlockControl control.EndUnconditional) kinds.Nothing
+    entry "OPN" (operations.Block control.OpenData) kinds.DataBlock
+    ∷ entry "OPN" (operations.Block control.OpenInstance) kinds.InstanceBlock
+    ∷ entry "CDB" (operations.Block control.ExchangeData) kinds.Nothing
+    ∷ entry "CALL" (operations.Block control.CallFunction) kinds.Function
+    ∷ entry "CALL" (operations.Block control.CallFunctionBlock) kinds.FunctionBlockWithData
+    ∷ entry "CALL" (operations.Block control.CallRetrigger) (kinds.SystemFunction 43)
+    ∷ entry "CALL" (operations.Block control.CallStop) (kinds.SystemFunction 46)
+    ∷ entry "UC" (operations.Block control.UnconditionalCallFunction) kinds.Function
+    ∷ entry "UC" (operations.Block control.UnconditionalCallFunctionBlock) kinds.FunctionBlock
+    ∷ entry "CC" (operations.Block control.ConditionalCallFunction) kinds.Function
+    ∷ entry "CC" (operations.Block control.ConditionalCallFunctionBlock) kinds.FunctionBlock
+    ∷ entry "BE" (operations.Block control.End) kinds.Nothing
+    ∷ entry "BEC" (operations.Block control.ConditionalEnd) kinds.Nothing
+    ∷ entry "BEU" (operations.Block control.UnconditionalEnd) kinds.Nothing
     ∷ []
 
 -- statements that do nothing
 abbrev pub nothing : List InstructionRow
 nothing =
-    entry "NOP" (groups.NoOperation idle.Nop0) (kinds.Exactly 0)
-    ∷ entry "NOP" (groups.NoOperation idle.Nop1) (kinds.Exactly 1)
-    ∷ entry "BLD" (groups.NoOperation idle.Bld) (kinds.UpTo 255)
+    entry "NOP" (operations.NoOperation idle.Nop0) (kinds.Exactly 0)
+    ∷ entry "NOP" (operations.NoOperation idle.Nop1) (kinds.Exactly 1)
+    ∷ entry "BLD" (operations.NoOperation idle.Display) (kinds.UpTo 255)
     ∷ []
 
 abbrev pub instruction_set : List InstructionRow

@@ -1,3 +1,4 @@
 pub mod Areas
 pub mod InstructionSet
 pub mod Rows
+pub mod Sizes

@@ -7,7 +7,7 @@ mod table;
 
 pub use operands::{OperandArea, OperandKind};
 pub use operation::{
-    Arithmetic, BitLogic, BlockControl, Branch, Comparison, CounterControl, NoOperation, Operation,
-    ShiftRotate, TimerControl, Transfer, WordLogic,
+    BitWrite, BlockOperation, Check, Cmp, Edge, Jump, MasterControl, Move, NoOperation, Num,
+    Operation, RloOperation, Shift, TimerKind, Word, WordSize,
 };
 pub use table::{InstructionRow, instruction_row, instruction_set};

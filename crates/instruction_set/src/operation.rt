@@ -1,8 +1,11 @@
-//! The operations of the language, by groups. Each enum has them in the order of their numbers.
+//! The operations of the language. Those that do the same kind of thing stand in one enum, which the crates that carry
+//! them out use too.
+ghost use Rattle.std.specs.Prelude.{◌≡◌};
+ghost use Rattle.instruction_set.specs.Sizes.{is_wide};
 
-/// Bit logic: checks, writes, groups, edges and the master control relay.
+/// How a check combines its operand with the result so far.
 #[derive(Clone, Copy, Debug, PartialEq, Eq)]
-pub enum BitLogic {
+pub enum Check {
     /// `A`
     And,
     /// `AN`
@@ -15,196 +18,178 @@ pub enum BitLogic {
     Xor,
     /// `XN`
     XorNot,
-    /// `O` without an operand
-    OrAlone,
-    /// `A(`
-    AndOpen,
-    /// `AN(`
-    AndNotOpen,
-    /// `O(`
-    OrOpen,
-    /// `ON(`
-    OrNotOpen,
-    /// `X(`
-    XorOpen,
-    /// `XN(`
-    XorNotOpen,
-    /// `)`
-    Close,
+}
+
+/// Writes of a bit; S and R are of timers and counters too, as their operand says.
+#[derive(Clone, Copy, Debug, PartialEq, Eq)]
+pub enum BitWrite {
     /// `=`
     Assign,
     /// `S`
     Set,
     /// `R`
     Reset,
+}
+
+/// Statements on the RLO alone.
+#[derive(Clone, Copy, Debug, PartialEq, Eq)]
+pub enum RloOperation {
     /// `NOT`
-    Invert,
+    NegateRlo,
     /// `SET`
     SetRlo,
     /// `CLR`
     ClearRlo,
     /// `SAVE`
     SaveRlo,
-    /// `FP`
-    RisingEdge,
-    /// `FN`
-    FallingEdge,
-    /// `MCRA`
-    ActivateMcr,
-    /// `MCRD`
-    DeactivateMcr,
-    /// `MCR(`
-    OpenMcr,
-    /// `)MCR`
-    CloseMcr,
 }
 
-/// Loads, transfers, and moves between the accumulators.
+/// The edges of the RLO.
 #[derive(Clone, Copy, Debug, PartialEq, Eq)]
-pub enum Transfer {
-    /// `L`
-    Load,
-    /// `T`
-    Store,
-    /// `LC`
-    LoadCoded,
+pub enum Edge {
+    /// `FP`
+    Rising,
+    /// `FN`
+    Falling,
+}
+
+/// The master control relay (MCR): its area and its zones.
+#[derive(Clone, Copy, Debug, PartialEq, Eq)]
+pub enum MasterControl {
+    /// `MCRA`
+    Activate,
+    /// `MCRD`
+    Deactivate,
+    /// `MCR(`
+    OpenZone,
+    /// `)MCR`
+    CloseZone,
+}
+
+/// The statements that move or change accumulators and leave the status word.
+#[derive(Clone, Copy, Debug, PartialEq, Eq)]
+pub enum Move {
     /// `PUSH`
     Push,
     /// `POP`
     Pop,
     /// `ENT`
-    Enter,
+    Ent,
     /// `LEAVE`
     Leave,
     /// `TAK`
-    Toggle,
+    Tak,
     /// `CAW`
-    SwapWord,
+    Caw,
     /// `CAD`
-    SwapDouble,
-    /// `INC`
-    Increment,
-    /// `DEC`
-    Decrement,
-    /// `+`
-    AddConstant,
-}
-
-/// Integer arithmetic and conversions.
-#[derive(Clone, Copy, Debug, PartialEq, Eq)]
-pub enum Arithmetic {
-    /// `+I`
-    AddInt,
-    /// `-I`
-    SubInt,
-    /// `*I`
-    MulInt,
-    /// `/I`
-    DivInt,
-    /// `+D`
-    AddDouble,
-    /// `-D`
-    SubDouble,
-    /// `*D`
-    MulDouble,
-    /// `/D`
-    DivDouble,
-    /// `MOD`
-    Modulo,
-    /// `NEGI`
-    NegateInt,
-    /// `NEGD`
-    NegateDouble,
+    Cad,
     /// `INVI`
-    InvertInt,
+    Invi,
     /// `INVD`
-    InvertDouble,
-    /// `BTI`
-    BcdToInt,
-    /// `ITB`
-    IntToBcd,
-    /// `BTD`
-    BcdToDouble,
-    /// `DTB`
-    DoubleToBcd,
+    Invd,
     /// `ITD`
-    IntToDouble,
+    Itd,
 }
 
-/// Comparisons of integers.
+/// The statements on numbers that give a result, CC1 CC0 and an overflow.
 #[derive(Clone, Copy, Debug, PartialEq, Eq)]
-pub enum Comparison {
-    /// `==I`
-    EqualInt,
-    /// `<>I`
-    UnequalInt,
-    /// `>I`
-    GreaterInt,
-    /// `<I`
-    LessInt,
-    /// `>=I`
-    GreaterEqualInt,
-    /// `<=I`
-    LessEqualInt,
-    /// `==D`
-    EqualDouble,
-    /// `<>D`
-    UnequalDouble,
-    /// `>D`
-    GreaterDouble,
-    /// `<D`
-    LessDouble,
-    /// `>=D`
-    GreaterEqualDouble,
-    /// `<=D`
-    LessEqualDouble,
+pub enum Num {
+    /// `+I`
+    AddI,
+    /// `-I`
+    SubI,
+    /// `*I`
+    MulI,
+    /// `/I`
+    DivI,
+    /// `+D`
+    AddD,
+    /// `-D`
+    SubD,
+    /// `*D`
+    MulD,
+    /// `/D`
+    DivD,
+    /// `MOD`
+    ModD,
+    /// `NEGI`
+    NegI,
+    /// `NEGD`
+    NegD,
+}
+
+/// How wide the values are that a statement works on.
+#[derive(Clone, Copy, Debug, PartialEq, Eq)]
+pub enum WordSize {
+    /// 16 bits: words and integers.
+    Word,
+    /// 32 bits: double words and double integers.
+    DoubleWord,
+}
+
+impl WordSize {
+    /// Whether the values have 32 bits.
+    pub fn is_wide(self) -> bool
+        ensures { result ≡ is_wide self }
+    {
+        self == WordSize::DoubleWord
+    }
+}
+
+/// The relation of ACCU2, on the left, to ACCU1 that a comparison asks for.
+#[derive(Clone, Copy, Debug, PartialEq, Eq)]
+pub enum Cmp {
+    /// `==`
+    Eq,
+    /// `<>`
+    Ne,
+    /// `>`
+    Gt,
+    /// `<`
+    Lt,
+    /// `>=`
+    Ge,
+    /// `<=`
+    Le,
 }
 
 /// Logic on words and double words.
 #[derive(Clone, Copy, Debug, PartialEq, Eq)]
-pub enum WordLogic {
-    /// `AW`
-    AndWord,
-    /// `OW`
-    OrWord,
-    /// `XOW`
-    XorWord,
-    /// `AD`
-    AndDouble,
-    /// `OD`
-    OrDouble,
-    /// `XOD`
-    XorDouble,
+pub enum Word {
+    /// `AW` `AD`
+    And,
+    /// `OW` `OD`
+    Or,
+    /// `XOW` `XOD`
+    Xor,
 }
 
-/// Shifts and rotations.
+/// Shifts and rotations of ACCU1.
 #[derive(Clone, Copy, Debug, PartialEq, Eq)]
-pub enum ShiftRotate {
-    /// `SSI`
-    ShiftInt,
-    /// `SLW`
-    ShiftLeftWord,
-    /// `SRW`
-    ShiftRightWord,
-    /// `SSD`
-    ShiftDouble,
-    /// `SLD`
-    ShiftLeftDouble,
-    /// `SRD`
-    ShiftRightDouble,
-    /// `RLD`
-    RotateLeft,
-    /// `RRD`
-    RotateRight,
+pub enum Shift {
+    /// `SSI`: the low word as a signed number, to the right.
+    Ssi,
+    /// `SSD`: the whole as a signed number, to the right.
+    Ssd,
+    /// `SLW`: the low word to the left.
+    Slw,
+    /// `SRW`: the low word to the right.
+    Srw,
+    /// `SLD`: the whole to the left.
+    Sld,
+    /// `SRD`: the whole to the right.
+    Srd,
+    /// `RLD`: a rotation to the left.
+    Rld,
+    /// `RRD`: a rotation to the right.
+    Rrd,
 }
 
-/// Jumps.
+/// The jumps that the status word decides.
 #[derive(Clone, Copy, Debug, PartialEq, Eq)]
-pub enum Branch {
+pub enum Jump {
     /// `JU`
     Ju,
-    /// `JL`
-    Jl,
     /// `JC`
     Jc,
     /// `JCN`
@@ -235,94 +220,130 @@ pub enum Branch {
     Jmz,
     /// `JUO`
     Juo,
-    /// `LOOP`
-    Loop,
 }
 
-/// Starts and enabling of timers.
+/// The kinds of timer.
 #[derive(Clone, Copy, Debug, PartialEq, Eq)]
-pub enum TimerControl {
-    /// `SP`
+pub enum TimerKind {
+    /// `SP`: a pulse.
     Sp,
-    /// `SE`
+    /// `SE`: an extended pulse.
     Se,
-    /// `SD`
+    /// `SD`: an on-delay.
     Sd,
-    /// `SS`
+    /// `SS`: a stored on-delay.
     Ss,
-    /// `SF`
+    /// `SF`: an off-delay.
     Sf,
-    /// `FR`
-    Fr,
-}
-
-/// Counting and enabling of counters.
-#[derive(Clone, Copy, Debug, PartialEq, Eq)]
-pub enum CounterControl {
-    /// `CU`
-    Cu,
-    /// `CD`
-    Cd,
-    /// `FR`
-    Fr,
 }
 
 /// Data blocks, calls, and ends of blocks.
 #[derive(Clone, Copy, Debug, PartialEq, Eq)]
-pub enum BlockControl {
-    /// `OPN`
+pub enum BlockOperation {
+    /// `OPN DB`
     OpenData,
-    /// `OPN`
+    /// `OPN DI`
     OpenInstance,
     /// `CDB`
-    SwapData,
-    /// `CALL`
+    ExchangeData,
+    /// `CALL FC`
     CallFunction,
-    /// `CALL`
-    CallWithInstance,
-    /// `CALL`
+    /// `CALL FB` with its data block
+    CallFunctionBlock,
+    /// `CALL SFC 43`
     CallRetrigger,
-    /// `CALL`
+    /// `CALL SFC 46`
     CallStop,
-    /// `UC`
-    EnterFunction,
-    /// `UC`
-    EnterFunctionBlock,
-    /// `CC`
-    TryFunction,
-    /// `CC`
-    TryFunctionBlock,
+    /// `UC FC`
+    UnconditionalCallFunction,
+    /// `UC FB`
+    UnconditionalCallFunctionBlock,
+    /// `CC FC`
+    ConditionalCallFunction,
+    /// `CC FB`
+    ConditionalCallFunctionBlock,
     /// `BE`
     End,
     /// `BEC`
-    EndConditional,
+    ConditionalEnd,
     /// `BEU`
-    EndUnconditional,
+    UnconditionalEnd,
 }
 
 /// Statements that do nothing.
 #[derive(Clone, Copy, Debug, PartialEq, Eq)]
 pub enum NoOperation {
-    /// `NOP`
+    /// `NOP 0`
     Nop0,
-    /// `NOP`
+    /// `NOP 1`
     Nop1,
     /// `BLD`
-    Bld,
+    Display,
 }
 
 /// An operation of the language.
 #[derive(Clone, Copy, Debug, PartialEq, Eq)]
 pub enum Operation {
-    BitLogic(BitLogic),
-    Transfer(Transfer),
-    Arithmetic(Arithmetic),
-    Comparison(Comparison),
-    WordLogic(WordLogic),
-    ShiftRotate(ShiftRotate),
-    Branch(Branch),
-    TimerControl(TimerControl),
-    CounterControl(CounterControl),
-    BlockControl(BlockControl),
+    /// `A AN O ON X XN`
+    Check(Check),
+    /// `O` without an operand
+    AndBeforeOr,
+    /// `A( AN( O( ON( X( XN(`
+    Open(Check),
+    /// `)`
+    Close,
+    /// `= S R`
+    Write(BitWrite),
+    /// `NOT SET CLR SAVE`
+    Rlo(RloOperation),
+    /// `FP FN`
+    Edge(Edge),
+    /// `MCRA MCRD MCR( )MCR`
+    MasterControl(MasterControl),
+    /// `L`
+    Load,
+    /// `T`
+    Transfer,
+    /// `LC`
+    LoadCoded,
+    /// `PUSH POP ENT LEAVE TAK CAW CAD INVI INVD ITD`
+    Move(Move),
+    /// `INC`
+    Increment,
+    /// `DEC`
+    Decrement,
+    /// `+`
+    AddConstant,
+    /// `+I -I *I /I +D -D *D /D MOD NEGI NEGD`
+    Number(Num),
+    /// `BTI BTD`
+    FromBcd(WordSize),
+    /// `ITB DTB`
+    ToBcd(WordSize),
+    /// `==I` and the like, `==D` and the like
+    Compare(Cmp, WordSize),
+    /// `AW OW XOW AD OD XOD`
+    WordLogic(Word, WordSize),
+    /// `SSI SSD SLW SRW SLD SRD RLD RRD`
+    Shift(Shift),
+    /// `JU JC` and the like
+    Jump(Jump),
+    /// `JL`
+    JumpList,
+    /// `LOOP`
+    Loop,
+    /// `SP SE SD SS SF`
+    StartTimer(TimerKind),
+    /// `FR` of a timer
+    EnableTimer,
+    /// `CU`
+    CountUp,
+    /// `CD`
+    CountDown,
+    /// `FR` of a counter
+    EnableCounter,
+    /// `OPN CDB CALL UC CC BE BEC BEU`
+    Block(BlockOperation),
+    /// `NOP BLD`
     NoOperation(NoOperation),
 }

@@ -5,10 +5,11 @@ ghost use Rattle.mc_machine.specs.Meaning.{asked, is_built};
 ghost use Rattle.mc_machine.specs.Stands.{IsRunning};
 ghost use Rattle.mc_machine.specs.Rung.{rung, rung_answers, rung_requests};
 
+use instruction_set::instruction_row;
 use mc_machine::*;
 use s7_base::{
     Answer, Area, Ask, Blocks, CodeBlock, CodeKind, DiagCode, Loss, Request, Side, Statement,
-    StopCode, fits, instruction_row,
+    StopCode, fits,
 };
 use std::alloc::Global;
 use std::process::Abort;

@@ -9,7 +9,7 @@ use Rattle.s7_events.specs.declared.entry.Ask.TheVariants as asks
 use Rattle.s7_events.specs.declared.entry.Request.{Request}
 use Rattle.s7_events.specs.declared.entry.StopCode.{StopCode}
 use Rattle.s7_base.specs.Blocks.{Program}
-use Rattle.statement_effects.specs.declared.areas.Memory.{Memory}
+use Rattle.statement_effects.specs.State.{Memory}
 use Rattle.mc_machine.specs.Places.{Level, Mode, Fresh, Ticking, Timing, Place, AtOutputs, AtInputs, AtCycle, AtStop, Over, At, Frame}
 use Rattle.statement_effects.specs.declared.instruction.Flow.{Flow}
 use Rattle.statement_effects.specs.declared.instruction.Flow.TheVariants as flow

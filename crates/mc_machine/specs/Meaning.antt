@@ -19,7 +19,7 @@ use Rattle.s7_events.specs.Fitting.{fits}
 use Rattle.s7_events.specs.Priorities.{priority_of}
 use Rattle.s7_events.specs.declared.entry.StopCode.{StopCode}
 use Rattle.s7_events.specs.declared.entry.StopCode.TheVariants as stops
-use Rattle.statement_effects.specs.declared.areas.Memory.{Memory}
+use Rattle.statement_effects.specs.State.{Memory}
 use Rattle.statement_effects.specs.declared.areas.Registers.{Registers}
 use Rattle.mc_machine.specs.Places.{Level, Mode, Fresh, Ticking, Timing, Place, AtOutputs, AtInputs, AtCycle, AtStop, Over, At, Frame, Note}
 use Rattle.statement_effects.specs.declared.instruction.Instruction.{Instruction}

@@ -10,7 +10,7 @@ use Rattle.s7_events.specs.declared.diagnostics.Area.{Area}
 use Rattle.s7_events.specs.declared.diagnostics.Area.TheVariants.{I, Q, M, Db, Timers, Counters, Registers}
 use Rattle.s7_base.specs.declared.blocks.BlockRef.{BlockRef}
 use Rattle.s7_base.specs.Blocks.{Program}
-use Rattle.statement_effects.specs.declared.areas.Memory.{Memory}
+use Rattle.statement_effects.specs.State.{Memory}
 use Rattle.mc_machine.specs.Places.{Level, Mode, Place, AtOutputs, AtInputs, AtCycle, AtStop, Over, At, Frame, Note}
 use Rattle.timers.specs.Bytes as timer_form
 use Rattle.counters.specs.Bytes as counter_form

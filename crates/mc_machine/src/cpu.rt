@@ -8,12 +8,10 @@ ghost use Rattle.mc_machine.specs.EngineView.{config_of};
 ghost use Rattle.mc_machine.specs.Stands.{IsIdle, IsRunning, CanAsk, CanTake, IsDated, CanGoOn, IsAsked, HasStopped, WaitsAt, Stands, CpuWaits, CpuStopped, area_bytes, OfRunning, HasSizes, byte_of, counter_of, notes_of};
 
 use crate::engine::Engine;
-use counters::Counter;
 use s7_base::{Answer, Area, Blocks, DiagCode, NoMemory, Request};
-use statement_effects::Memory;
+use statement_effects::{ByteArea, Memory};
 use std::alloc::Global;
 use std::marker::Model;
-use timers::Timer;
 
 /// A CPU: idle, or running a program from request to request. Only `load` takes memory.
 #[derive(Debug, Drop)]
@@ -171,45 +169,27 @@ fn byte_at(bytes: &[u8], at: usize) -> Option<u8>
 
 /// The byte of the area of the timers, 24 bytes each.
 #[tactic(auto, using(crate::proofs::AreaBytes::no_timer_byte, crate::proofs::AreaBytes::timer_byte))]
-fn timer_byte(timers: &[Timer], at: usize) -> Option<u8>
-    ensures { result ≡ slice_get (flat_map timer_form.bytes_of timers.now) at }
+fn timer_byte(memory: &Memory, at: usize) -> Option<u8>
+    ensures { result ≡ slice_get (flat_map timer_form.bytes_of memory.now.timers) at }
 {
-    let timer = timer_in(timers, at / 24)?;
+    let timer = memory.find_timer(at / 24)?;
     byte_at(&timer.to_bytes(), at % 24)
-}
-
-/// The timer of a number, if there is one.
-fn timer_in(timers: &[Timer], n: usize) -> Option<Timer>
-    ensures { result ≡ slice_get timers.now n }
-{
-    timers.get(n).copied()
 }
 
 /// The byte of the area of the counters, four bytes each.
 #[tactic(auto, using(crate::proofs::AreaBytes::no_counter_byte, crate::proofs::AreaBytes::counter_byte))]
-fn counter_byte(counters: &[Counter], at: usize) -> Option<u8>
-    ensures { result ≡ slice_get (flat_map counter_form.bytes_of counters.now) at }
+fn counter_byte(memory: &Memory, at: usize) -> Option<u8>
+    ensures { result ≡ slice_get (flat_map counter_form.bytes_of memory.now.counters) at }
 {
-    let counter = counter_in(counters, at / 4)?;
+    let counter = memory.find_counter(at / 4)?;
     byte_at(&counter.to_bytes(), at % 4)
-}
-
-/// The counter of a number, if there is one.
-fn counter_in(counters: &[Counter], n: usize) -> Option<Counter>
-    ensures { result ≡ slice_get counters.now n }
-{
-    counters.get(n).copied()
 }
 
 /// Shows how many bytes, timers and counters there are.
 fn show_sizes(memory: &Memory)
     ensures { HasSizes memory.now }
 {
-    let _inputs: &[u8] = &memory.inputs;
-    let _outputs: &[u8] = &memory.outputs;
-    let _flags: &[u8] = &memory.flags;
-    let _timers: &[Timer] = &memory.timers;
-    let _counters: &[Counter] = &memory.counters;
+    memory.show_sizes();
 }
 
 /// The byte of an area.
@@ -221,11 +201,11 @@ fn area_byte(engine: &Engine, area: Area, at_byte: u16) -> Option<u8>
     show_sizes(memory);
     let at = at_byte as usize;
     match area {
-        Area::I => byte_at(&memory.inputs, at),
-        Area::Q => byte_at(&memory.outputs, at),
-        Area::M => byte_at(&memory.flags, at),
-        Area::Timers => timer_byte(&memory.timers, at),
-        Area::Counters => counter_byte(&memory.counters, at),
+        Area::I => memory.byte(ByteArea::I, at),
+        Area::Q => memory.byte(ByteArea::Q, at),
+        Area::M => memory.byte(ByteArea::M, at),
+        Area::Timers => timer_byte(memory, at),
+        Area::Counters => counter_byte(memory, at),
         Area::Registers => engine.register_byte(at),
         Area::Db(_) => None,
     }

@@ -422,8 +422,8 @@ impl Engine {
         ensures waits { self.new.waits ≡ self.old.waits }
     {
         let level = main_level(&self.program);
-        self.memory.inputs = image;
-        self.memory.registers = Registers::clear();
+        self.memory.set_inputs(image);
+        self.memory.set_registers(Registers::clear());
         let frame = Frame {
             spot: Spot::AtCycle,
             kept: Registers::clear(),
@@ -440,7 +440,7 @@ impl Engine {
         ensures stored { IsStored self.new }
     {
         match self.spot {
-            Spot::AtOutputs => Some(request(Ask::Outputs(self.memory.outputs), 1)),
+            Spot::AtOutputs => Some(request(Ask::Outputs(self.memory.outputs()), 1)),
             Spot::AtInputs => Some(request(Ask::Inputs, 1)),
             Spot::AtCycle => Some(request(Ask::Cycle, 1)),
             Spot::AtStop(code) => Some(stop_request(code)),
@@ -531,9 +531,9 @@ impl Engine {
             Ok(level) => {
                 let frame = Frame {
                     spot: at_statement(spot, spot.at + 1),
-                    kept: self.memory.registers,
+                    kept: self.memory.registers(),
                 };
-                self.memory.registers = error_registers(&frame.kept);
+                self.memory.set_registers(error_registers(&frame.kept));
                 self.begin(ob(error_ob(error)), level, frame);
                 self.note(DiagCode::Error(error));
                 None
@@ -624,8 +624,10 @@ impl Engine {
         let Some(frame) = self.frames.pop() else {
             unreachable!()
         };
-        self.memory.registers.status.after_block();
+        let mut registers = self.memory.registers();
+        registers.status.after_block();
+        self.memory.set_registers(registers);
         self.spot = frame.spot;
-        self.memory.registers = frame.kept;
+        self.memory.set_registers(frame.kept);
     }
 }

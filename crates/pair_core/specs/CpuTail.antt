@@ -1,7 +1,7 @@
 -- The tail of a CPU.
 use Rattle.std.specs.Prelude.{ℕ, List, [], map, Option, Some, None}
 use Rattle.s7_events.specs.declared.diagnostics.DiagCode.{DiagCode}
-use Rattle.statement_effects.specs.declared.areas.Memory.{Memory}
+use Rattle.statement_effects.specs.State.{Memory}
 use Rattle.mc_machine.specs.Places.{Note}
 use Rattle.mc_machine.specs.Meaning.{State}
 use Rattle.mc_machine.specs.Stands.{Running, newest}

@@ -6,8 +6,8 @@ use Rattle.s7_base.specs.declared.blocks.CodeKind.TheVariants.{Ob, Fb, Fc}
 use Rattle.s7_base.specs.declared.statement.Statement.{Statement}
 use Rattle.instruction_set.specs.declared.table.InstructionRow.{InstructionRow}
 use Rattle.instruction_set.specs.declared.operation.Operation.{Operation}
-use Rattle.instruction_set.specs.declared.operation.Operation.TheVariants as groups
-use Rattle.instruction_set.specs.declared.operation.BlockControl.TheVariants.{End, EndConditional, EndUnconditional}
+use Rattle.instruction_set.specs.declared.operation.Operation.TheVariants.{Block}
+use Rattle.instruction_set.specs.declared.operation.BlockOperation.TheVariants.{End, ConditionalEnd, UnconditionalEnd}
 use Rattle.instruction_set.specs.declared.operands.OperandArea.TheVariants as areas
 use Rattle.s7_base.specs.Operands.{is_in}
 use Rattle.instruction_set.specs.Rows.{row_of}
@@ -57,10 +57,10 @@ is_elsewhere s =
 
 -- a statement on blocks that does not end one: it opens or calls one
 abbrev pub is_call_operation : Operation → Bool
-is_call_operation (groups.BlockControl End) = false
-is_call_operation (groups.BlockControl EndConditional) = false
-is_call_operation (groups.BlockControl EndUnconditional) = false
-is_call_operation (groups.BlockControl _) = true
+is_call_operation (Block End) = false
+is_call_operation (Block ConditionalEnd) = false
+is_call_operation (Block UnconditionalEnd) = false
+is_call_operation (Block _) = true
 is_call_operation _ = false
 
 abbrev pub is_call_row : Option InstructionRow → Bool

@@ -4,8 +4,8 @@ use Rattle.std.specs.List.{list_all}
 use Rattle.s7_base.specs.declared.statement.Statement.{Statement}
 use Rattle.instruction_set.specs.declared.table.InstructionRow.{InstructionRow}
 use Rattle.instruction_set.specs.declared.operation.Operation.{Operation}
-use Rattle.instruction_set.specs.declared.operation.Operation.TheVariants as groups
-use Rattle.instruction_set.specs.declared.operation.Branch.TheVariants.{Ju, Jl}
+use Rattle.instruction_set.specs.declared.operation.Operation.TheVariants as operations
+use Rattle.instruction_set.specs.declared.operation.Jump.TheVariants.{Ju}
 use Rattle.instruction_set.specs.declared.operands.OperandArea.TheVariants.{Target}
 use Rattle.instruction_set.specs.Rows.{row_of}
 use Rattle.s7_base.specs.Operands.{allows, is_in}
@@ -20,11 +20,11 @@ abbrev pub is_statement : ℕ → Statement → Bool
 is_statement locals s = is_of_row (row_of s.op) locals s
 
 abbrev pub is_ju_operation : Operation → Bool
-is_ju_operation (groups.Branch Ju) = true
+is_ju_operation (operations.Jump Ju) = true
 is_ju_operation _ = false
 
 abbrev pub is_jl_operation : Operation → Bool
-is_jl_operation (groups.Branch Jl) = true
+is_jl_operation operations.JumpList = true
 is_jl_operation _ = false
 
 abbrev pub is_ju_row : Option InstructionRow → Bool

@@ -4,7 +4,7 @@ ghost use Rattle.std.specs.List.{list_all};
 ghost use Rattle.s7_base.specs.Statements.{is_statement, is_ju, is_jl, is_target, is_list, lands, all_land};
 
 use crate::Statement;
-use instruction_set::{Branch, OperandArea, Operation, instruction_row};
+use instruction_set::{Jump, OperandArea, Operation, instruction_row};
 
 impl Statement {
     /// Whether the statement is one of the language, in a block with so many bytes of local data: its operation is
@@ -23,7 +23,7 @@ impl Statement {
         ensures { result ≡ is_ju self.now }
     {
         match instruction_row(self.op) {
-            Some(row) => matches!(row.operation, Operation::Branch(Branch::Ju)),
+            Some(row) => matches!(row.operation, Operation::Jump(Jump::Ju)),
             None => false,
         }
     }
@@ -33,7 +33,7 @@ impl Statement {
         ensures { result ≡ is_jl self.now }
     {
         match instruction_row(self.op) {
-            Some(row) => matches!(row.operation, Operation::Branch(Branch::Jl)),
+            Some(row) => matches!(row.operation, Operation::JumpList),
             None => false,
         }
     }

@@ -1,4 +1,4 @@
-//! Stored statements and well-formed blocks. What a CPU asks and is answered, and the instruction set, are handed on.
+//! Stored statements and well-formed blocks. What a CPU asks and is answered is handed on.
 #![tactic(auto)]
 
 mod allowed;
@@ -10,11 +10,6 @@ mod statement;
 
 pub use allowed::is_data_number;
 pub use blocks::{BlockRef, Blocks, CodeBlock, CodeKind, DataBlock};
-pub use instruction_set::{
-    Arithmetic, BitLogic, BlockControl, Branch, Comparison, CounterControl, InstructionRow,
-    NoOperation, OperandArea, OperandKind, Operation, ShiftRotate, TimerControl, Transfer,
-    WordLogic, instruction_row, instruction_set,
-};
 pub use s7_events::{
     Answer, Area, Ask, DiagCode, Entry, Job, JobArea, Loss, NoMemory, Request, Side, StopCode,
     fits, is_ob, priority,

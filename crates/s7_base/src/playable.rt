@@ -4,16 +4,16 @@ ghost use Rattle.s7_base.specs.Blocks.{is_elsewhere, is_call_operation, is_call_
 ghost use Rattle.instruction_set.specs.Rows.{row_of};
 
 use crate::{Blocks, CodeBlock, CodeKind, Statement};
-use instruction_set::{BlockControl, OperandArea, Operation, instruction_row};
+use instruction_set::{BlockOperation, OperandArea, Operation, instruction_row};
 
 fn is_call_operation(operation: Operation) -> bool
     ensures { result ≡ is_call_operation operation }
 {
     match operation {
-        Operation::BlockControl(
-            BlockControl::End | BlockControl::EndConditional | BlockControl::EndUnconditional,
+        Operation::Block(
+            BlockOperation::End | BlockOperation::ConditionalEnd | BlockOperation::UnconditionalEnd,
         ) => false,
-        Operation::BlockControl(_) => true,
+        Operation::Block(_) => true,
         _ => false,
     }
 }

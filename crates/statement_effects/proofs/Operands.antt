@@ -1,22 +1,31 @@
--- Each operand that is allowed and is played is read.
-use Rattle.std.proofs.Common.{◌≡◌, ℕ, ◌+◌, ◌≤◌, Bool, true, false, ◌&&◌, ◌||◌, refl, subst, inl, inr, arith}
+-- Each operand that is allowed and is played is decoded, and is of a form that its kind allows.
+use Rattle.std.proofs.Common.{◌≡◌, ℕ, ◌+◌, ◌≤◌, Bool, true, false, ◌&&◌, ◌||◌, Option, Some, None, refl, subst, inl, inr, arith}
 use Rattle.std.specs.Prelude.{◌⊎◌, ◌==◌, is_some, nat_lt, nat_le}
+use Rattle.std.specs.Option.{option_map, option_or}
 use Rattle.std.proofs.lemmas.Bool.{both_ways, and_parts, or_cases, or_parts, eqb-true, ne_eqb, cases_eq, leb-true, lt-ltb, le-leb}
 use Rattle.s7_base.specs.declared.statement.Statement.{Statement}
+use Rattle.instruction_set.specs.declared.operation.Operation.{Operation}
+use Rattle.instruction_set.specs.declared.operands.OperandKind.{OperandKind}
 use Rattle.instruction_set.specs.declared.operands.OperandKind.TheVariants as kinds
 use Rattle.instruction_set.specs.declared.operands.OperandArea.{OperandArea}
 use Rattle.instruction_set.specs.declared.operands.OperandArea.TheVariants as areas
 use Rattle.instruction_set.specs.Areas.{area_number}
 use Rattle.s7_base.specs.Operands.{is_in, is_data_number, ends_by, is_within, is_of_cpu, is_of_data, is_memory, is_bit, unit_bytes, is_value, is_peripheral, is_number, is_up_to, is_exactly, is_timer_or_counter, is_constant, is_about_data, allows}
 use Rattle.s7_base.specs.Blocks.{is_elsewhere}
-use Rattle.status_word.specs.declared.status.Check.{Check}
-use Rattle.accumulators.specs.declared.shifts.Shift.{Shift}
-use Rattle.statement_effects.specs.declared.instruction.BitPlace.{BitPlace}
-use Rattle.statement_effects.specs.declared.instruction.BitInstruction.{BitInstruction}
-use Rattle.statement_effects.specs.declared.instruction.TimerOperation.{TimerOperation}
-use Rattle.statement_effects.specs.declared.instruction.TimedOperation.{TimedOperation}
-use Rattle.statement_effects.specs.declared.instruction.CounterOperation.{CounterOperation}
-use Rattle.statement_effects.specs.Reading.{read_bit, read_timer, read_timed, read_counter, read_check, read_set, read_reset, read_load, read_store, read_coded, read_count, read_add, read_shift}
+use Rattle.s7_events.specs.Optional.{◌>>=◌}
+use Rattle.statement_effects.specs.declared.instruction.ByteArea.TheVariants.{I, Q, M}
+use Rattle.statement_effects.specs.declared.instruction.Width.TheVariants as widths
+use Rattle.statement_effects.specs.declared.instruction.BitOperand.{BitOperand}
+use Rattle.statement_effects.specs.declared.instruction.BitOperand.TheVariants as bits
+use Rattle.statement_effects.specs.declared.instruction.ValueOperand.{ValueOperand}
+use Rattle.statement_effects.specs.declared.instruction.ValueOperand.TheVariants as values
+use Rattle.statement_effects.specs.declared.instruction.Operand.{Operand}
+use Rattle.statement_effects.specs.declared.instruction.Operand.TheVariants as operands
+use Rattle.statement_effects.specs.declared.instruction.StatusInstruction.TheVariants as status
+use Rattle.statement_effects.specs.declared.instruction.Instruction.{Instruction}
+use Rattle.statement_effects.specs.declared.instruction.Instruction.TheVariants as groups
+use Rattle.statement_effects.specs.Decoding.{operand_of}
+use Rattle.statement_effects.specs.Reading.{bit_of, move_of, timer_of, timed_of, counter_of, status_check_of, with_word, with_double_word, with_target, means}
 
 -- the operand is none of the places that are not played
 pub record IsHere (s : Statement) : Type 0 where
@@ -119,45 +128,11 @@ numbered area most s h =
     let here = and_parts (is_in area s && s.bit == 0) (s.db == 0) parts.0 in
     record { area = eqb-true s.area (area_number area) (and_parts (is_in area s) (s.bit == 0) here.0).0; fits = parts.1 }
 
--- what is read --
-
-read_bit_some : (means : BitPlace → BitInstruction) (s : Statement) → nat_le s.bit 7 ≡ true → InMemory 1 s → is_some (read_bit means s) ≡ true
-read_bit_some means s bit (inl i) = rw (i.area, below s.value 64 i.fits, bit) refl
-read_bit_some means s bit (inr (inl q)) = rw (q.area, below s.value 64 q.fits, bit) refl
-read_bit_some means s bit (inr (inr m)) = rw (m.area, below s.value 1024 m.fits, bit) refl
-
 -- a bit of memory, where it is allowed
 bit_parts : (locals : ℕ) (s : Statement) → IsHere s → is_bit locals s ≡ true → (nat_le s.bit 7 ≡ true) × InMemory 1 s
 bit_parts locals s out h =
     let parts = and_parts (nat_le s.bit 7) (is_memory locals 1 s) h in
     (parts.0, in_memory locals 1 s out parts.1)
-
-pub written : (means : BitPlace → BitInstruction) (locals : ℕ) (s : Statement) → IsHere s → is_bit locals s ≡ true → is_some (read_bit means s) ≡ true
-written means locals s out h = let parts = bit_parts locals s out h in read_bit_some means s parts.0 parts.1
-
--- of a timer, of a counter
-pub timed : (op : TimedOperation) (s : Statement) → nat_le s.value 255 ≡ true → is_some (read_timed op s) ≡ true
-timed op s h = rw h refl
-
-pub of_timer : (op : TimerOperation) (s : Statement) → nat_le s.value 255 ≡ true → is_some (read_timer op s) ≡ true
-of_timer op s h = rw h refl
-
-pub counted : (op : CounterOperation) (s : Statement) → nat_le s.value 255 ≡ true → is_some (read_counter op s) ≡ true
-counted op s h = rw h refl
-
-check_bit : (how : Check) (s : Statement) → nat_le s.bit 7 ≡ true → InMemory 1 s → is_some (read_check how s) ≡ true
-check_bit how s bit (inl i) = rw (i.area, below s.value 64 i.fits, bit) refl
-check_bit how s bit (inr (inl q)) = rw (q.area, below s.value 64 q.fits, bit) refl
-check_bit how s bit (inr (inr m)) = rw (m.area, below s.value 1024 m.fits, bit) refl
-
-check_timer : (how : Check) (s : Statement) → IsNumber 9 255 s → is_some (read_check how s) ≡ true
-check_timer how s t = rw (t.area, t.fits) refl
-
-check_counter : (how : Check) (s : Statement) → IsNumber 10 255 s → is_some (read_check how s) ≡ true
-check_counter how s t = rw (t.area, t.fits) refl
-
-check_status : (how : Check) (s : Statement) → is_up_to areas.Status 9 s ≡ true → is_some (read_check how s) ≡ true
-check_status how s h = let t = numbered areas.Status 9 s h in rw (h, t.area) refl
 
 -- a timer or a counter
 either : (s : Statement) → is_timer_or_counter s ≡ true → IsNumber 9 255 s ⊎ IsNumber 10 255 s
@@ -166,52 +141,6 @@ either s h =
       | inl t ↦ inl (numbered areas.Timer 255 s t)
       | inr c ↦ inr (numbered areas.Counter 255 s c)
     ]
-
-pub checked : (how : Check) (locals : ℕ) (s : Statement) → IsHere s → allows kinds.CheckedBit locals s ≡ true → is_some (read_check how s) ≡ true
-checked how locals s out h =
-    elim (or_cases (is_bit locals s || is_timer_or_counter s) (is_up_to areas.Status 9 s) h) [
-      | inl x ↦ elim (or_cases (is_bit locals s) (is_timer_or_counter s) x) [
-        | inl b ↦ let parts = bit_parts locals s out b in check_bit how s parts.0 parts.1
-        | inr y ↦ elim (either s y) [ inl t ↦ check_timer how s t | inr c ↦ check_counter how s c ]
-      ]
-      | inr z ↦ check_status how s z
-    ]
-
--- S, R
-set_bit : (s : Statement) → nat_le s.bit 7 ≡ true → InMemory 1 s → is_some (read_set s) ≡ true
-set_bit s bit (inl i) = rw (i.area, below s.value 64 i.fits, bit) refl
-set_bit s bit (inr (inl q)) = rw (q.area, below s.value 64 q.fits, bit) refl
-set_bit s bit (inr (inr m)) = rw (m.area, below s.value 1024 m.fits, bit) refl
-
-set_counter : (s : Statement) → IsNumber 10 255 s → is_some (read_set s) ≡ true
-set_counter s c = rw (c.area, c.fits) refl
-
-pub set : (locals : ℕ) (s : Statement) → IsHere s → allows kinds.SetBit locals s ≡ true → is_some (read_set s) ≡ true
-set locals s out h =
-    elim (or_cases (is_bit locals s) (is_up_to areas.Counter 255 s) h) [
-      | inl b ↦ let parts = bit_parts locals s out b in set_bit s parts.0 parts.1
-      | inr c ↦ set_counter s (numbered areas.Counter 255 s c)
-    ]
-
-reset_bit : (s : Statement) → nat_le s.bit 7 ≡ true → InMemory 1 s → is_some (read_reset s) ≡ true
-reset_bit s bit (inl i) = rw (i.area, below s.value 64 i.fits, bit) refl
-reset_bit s bit (inr (inl q)) = rw (q.area, below s.value 64 q.fits, bit) refl
-reset_bit s bit (inr (inr m)) = rw (m.area, below s.value 1024 m.fits, bit) refl
-
-reset_timer : (s : Statement) → IsNumber 9 255 s → is_some (read_reset s) ≡ true
-reset_timer s t = rw (t.area, t.fits) refl
-
-reset_counter : (s : Statement) → IsNumber 10 255 s → is_some (read_reset s) ≡ true
-reset_counter s c = rw (c.area, c.fits) refl
-
-pub reset : (locals : ℕ) (s : Statement) → IsHere s → allows kinds.ResetBit locals s ≡ true → is_some (read_reset s) ≡ true
-reset locals s out h =
-    elim (or_cases (is_bit locals s) (is_timer_or_counter s) h) [
-      | inl b ↦ let parts = bit_parts locals s out b in reset_bit s parts.0 parts.1
-      | inr y ↦ elim (either s y) [ inl t ↦ reset_timer s t | inr c ↦ reset_counter s c ]
-    ]
-
--- values --
 
 -- a stored unit of some bytes is a byte, a word or a double word
 units : (u : ℕ) → nat_lt 0 (unit_bytes u) ≡ true → (u ≡ 8) ⊎ ((u ≡ 9) ⊎ (u ≡ 10))
@@ -225,54 +154,6 @@ units u h =
           | inr no10 ↦ absurd (let no = rw (ne_eqb u 8 no8, ne_eqb u 9 no9, ne_eqb u 10 no10) at h in cc)
         ]
       ]
-    ]
-
-load_8 : (s : Statement) → s.bit ≡ 8 → InMemory 1 s → is_some (read_load s) ≡ true
-load_8 s unit (inl i) = rw (i.area, unit, i.fits) refl
-load_8 s unit (inr (inl q)) = rw (q.area, unit, q.fits) refl
-load_8 s unit (inr (inr m)) = rw (m.area, unit, m.fits) refl
-
-load_9 : (s : Statement) → s.bit ≡ 9 → InMemory 2 s → is_some (read_load s) ≡ true
-load_9 s unit (inl i) = rw (i.area, unit, i.fits) refl
-load_9 s unit (inr (inl q)) = rw (q.area, unit, q.fits) refl
-load_9 s unit (inr (inr m)) = rw (m.area, unit, m.fits) refl
-
-load_10 : (s : Statement) → s.bit ≡ 10 → InMemory 4 s → is_some (read_load s) ≡ true
-load_10 s unit (inl i) = rw (i.area, unit, i.fits) refl
-load_10 s unit (inr (inl q)) = rw (q.area, unit, q.fits) refl
-load_10 s unit (inr (inr m)) = rw (m.area, unit, m.fits) refl
-
-load_value : (locals : ℕ) (s : Statement) → IsHere s → is_value locals s ≡ true → is_some (read_load s) ≡ true
-load_value locals s out h =
-    let parts = and_parts (nat_lt 0 (unit_bytes s.bit)) (is_memory locals (unit_bytes s.bit) s) h in
-    let here : InMemory (unit_bytes s.bit) s = in_memory locals (unit_bytes s.bit) s out parts.1 in
-    elim (units s.bit parts.0) [
-      | inl e ↦ load_8 s e (subst (λ u. InMemory (unit_bytes u) s) e here)
-      | inr r ↦ elim r [ inl e ↦ load_9 s e (subst (λ u. InMemory (unit_bytes u) s) e here) | inr e ↦ load_10 s e (subst (λ u. InMemory (unit_bytes u) s) e here) ]
-    ]
-
-store_8 : (s : Statement) → s.bit ≡ 8 → InMemory 1 s → is_some (read_store s) ≡ true
-store_8 s unit (inl i) = rw (i.area, unit, i.fits) refl
-store_8 s unit (inr (inl q)) = rw (q.area, unit, q.fits) refl
-store_8 s unit (inr (inr m)) = rw (m.area, unit, m.fits) refl
-
-store_9 : (s : Statement) → s.bit ≡ 9 → InMemory 2 s → is_some (read_store s) ≡ true
-store_9 s unit (inl i) = rw (i.area, unit, i.fits) refl
-store_9 s unit (inr (inl q)) = rw (q.area, unit, q.fits) refl
-store_9 s unit (inr (inr m)) = rw (m.area, unit, m.fits) refl
-
-store_10 : (s : Statement) → s.bit ≡ 10 → InMemory 4 s → is_some (read_store s) ≡ true
-store_10 s unit (inl i) = rw (i.area, unit, i.fits) refl
-store_10 s unit (inr (inl q)) = rw (q.area, unit, q.fits) refl
-store_10 s unit (inr (inr m)) = rw (m.area, unit, m.fits) refl
-
-store_value : (locals : ℕ) (s : Statement) → IsHere s → is_value locals s ≡ true → is_some (read_store s) ≡ true
-store_value locals s out h =
-    let parts = and_parts (nat_lt 0 (unit_bytes s.bit)) (is_memory locals (unit_bytes s.bit) s) h in
-    let here : InMemory (unit_bytes s.bit) s = in_memory locals (unit_bytes s.bit) s out parts.1 in
-    elim (units s.bit parts.0) [
-      | inl e ↦ store_8 s e (subst (λ u. InMemory (unit_bytes u) s) e here)
-      | inr r ↦ elim r [ inl e ↦ store_9 s e (subst (λ u. InMemory (unit_bytes u) s) e here) | inr e ↦ store_10 s e (subst (λ u. InMemory (unit_bytes u) s) e here) ]
     ]
 
 named : (area : OperandArea) (s : Statement) → is_number area s ≡ true → s.area ≡ area_number area
@@ -289,17 +170,6 @@ peripheral_in area s h =
     (and_parts (is_in area s) (ends_by 1024 (unit_bytes s.bit) s)
     (and_parts (nat_lt 0 (unit_bytes s.bit)) (is_within area 1024 (unit_bytes s.bit) s)
     (and_parts (nat_lt 0 (unit_bytes s.bit) && is_within area 1024 (unit_bytes s.bit) s) (s.db == 0) h).0).1).0
-
-load_timer : (s : Statement) → IsNumber 9 255 s → is_some (read_load s) ≡ true
-load_timer s t = rw (t.area, t.fits) refl
-
-load_counter : (s : Statement) → IsNumber 10 255 s → is_some (read_load s) ≡ true
-load_counter s c = rw (c.area, c.fits) refl
-
-load_named : (s : Statement) → (s.area ≡ 11) ⊎ ((s.area ≡ 12) ⊎ (s.area ≡ 15)) → is_some (read_load s) ≡ true
-load_named s (inl a) = rw a refl
-load_named s (inr (inl a)) = rw a refl
-load_named s (inr (inr a)) = rw a refl
 
 no_about : (s : Statement) → IsHere s → is_about_data s ≡ true → ⊥
 no_about s out h =
@@ -318,8 +188,173 @@ no_about s out h =
       | inr x ↦ both_ways (is_in areas.InstanceNumber s) out.instance_number (exactly_in areas.InstanceNumber 0 s x)
     ]
 
-pub load : (locals : ℕ) (s : Statement) → IsHere s → allows kinds.Loaded locals s ≡ true → is_some (read_load s) ≡ true
-load locals s out h =
+-- what an operation means --
+
+-- the operation means an instruction with this operand
+abbrev pub takes : Operation → Operand → Bool
+takes op operand = is_some (means op operand)
+
+abbrev no_bit : BitOperand
+no_bit = bits.Area (record { area = I; at_byte = 0; bit = 0 })
+
+abbrev no_value : ValueOperand
+no_value = values.Area (record { area = I; at_byte = 0; width = widths.Byte })
+
+-- with each form of operand that a kind allows, and is played
+abbrev pub takes_all : OperandKind → Operation → Bool
+takes_all kinds.Nothing op = takes op operands.Nothing
+takes_all kinds.CheckedBit op =
+    takes op (operands.Bit no_bit) && (takes op (operands.Timer 0) && (takes op (operands.Counter 0) && takes op (operands.Status 0)))
+takes_all kinds.WrittenBit op = takes op (operands.Bit no_bit)
+takes_all kinds.SetBit op = takes op (operands.Bit no_bit) && takes op (operands.Counter 0)
+takes_all kinds.ResetBit op = takes op (operands.Bit no_bit) && (takes op (operands.Timer 0) && takes op (operands.Counter 0))
+takes_all kinds.Loaded op =
+    takes op (operands.Value no_value)
+    && (takes op (operands.Word 0)
+    && (takes op (operands.DoubleWord 0) && (takes op (operands.Timer 0) && (takes op (operands.Counter 0) && takes op operands.StatusWord))))
+takes_all kinds.Stored op = takes op (operands.Value no_value) && takes op operands.StatusWord
+takes_all kinds.Coded op = takes op (operands.Timer 0) && takes op (operands.Counter 0)
+takes_all kinds.Addend op = takes op (operands.Word 0) && takes op (operands.DoubleWord 0)
+takes_all (kinds.UpTo most) op = nat_le most 65535 && takes op (operands.Word 0)
+takes_all (kinds.Exactly number) op = nat_le number 65535 && takes op (operands.Word 0)
+takes_all (kinds.AtMost most) op = nat_le most 65535 && (takes op operands.Nothing && takes op (operands.Word 0))
+takes_all kinds.Mask op = takes op operands.Nothing && takes op (operands.DoubleWord 0)
+takes_all kinds.Target op = takes op (operands.Target 0)
+takes_all kinds.Timer op = takes op (operands.Timer 0)
+takes_all kinds.Counter op = takes op (operands.Counter 0)
+takes_all _ op = false
+
+-- only the form of the operand decides --
+
+some_map : {A B : Type 0} (f g : A → B) (o : Option A) → is_some (option_map f o) ≡ true → is_some (option_map g o) ≡ true
+some_map f g None h = h
+some_map f g (Some x) h = refl
+
+some_or : {A B C : Type 0} (f g : A → C) (f' g' : B → C) (o : Option A) (p : Option B) → is_some (option_or (option_map f o) (option_map f' p)) ≡ true
+    → is_some (option_or (option_map g o) (option_map g' p)) ≡ true
+some_or f g f' g' None None h = h
+some_or f g f' g' None (Some y) h = refl
+some_or f g f' g' (Some x) p h = refl
+
+bit_any : (op : Operation) (place : BitOperand) → takes op (operands.Bit no_bit) ≡ true → takes op (operands.Bit place) ≡ true
+bit_any op place h = some_map (λ i. groups.Bit i no_bit) (λ i. groups.Bit i place) (bit_of op) h
+
+value_any : (op : Operation) (place : ValueOperand) → takes op (operands.Value no_value) ≡ true → takes op (operands.Value place) ≡ true
+value_any op place h = some_map (λ i. groups.Move i no_value) (λ i. groups.Move i place) (move_of op) h
+
+timer_any : (op : Operation) (n : ℕ) → takes op (operands.Timer 0) ≡ true → takes op (operands.Timer n) ≡ true
+timer_any op n h =
+    some_or (λ i. groups.Timer i 0) (λ i. groups.Timer i n) (λ i. groups.Timed i 0) (λ i. groups.Timed i n) (timer_of op) (timed_of op) h
+
+counter_any : (op : Operation) (n : ℕ) → takes op (operands.Counter 0) ≡ true → takes op (operands.Counter n) ≡ true
+counter_any op n h = some_map (λ i. groups.Counter i 0) (λ i. groups.Counter i n) (counter_of op) h
+
+status_any : (op : Operation) (n : ℕ) → takes op (operands.Status 0) ≡ true → takes op (operands.Status n) ≡ true
+status_any op n h =
+    some_map (λ how. groups.Status (status.Check how 0)) (λ how. groups.Status (status.Check how n)) (status_check_of op) h
+
+-- with a number that an instruction is made of
+number_any : (o : Option (ℕ → Instruction)) (n : ℕ) → is_some (option_map (λ instruction. instruction 0) o) ≡ true → is_some (option_map (λ instruction. instruction n) o) ≡ true
+number_any o n h = some_map (λ (f : ℕ → Instruction). f 0) (λ (f : ℕ → Instruction). f n) o h
+
+word_any : (op : Operation) (n : ℕ) → takes op (operands.Word 0) ≡ true → takes op (operands.Word n) ≡ true
+word_any op n h = number_any (with_word op) n h
+
+double_any : (op : Operation) (n : ℕ) → takes op (operands.DoubleWord 0) ≡ true → takes op (operands.DoubleWord n) ≡ true
+double_any op n h = number_any (with_double_word op) n h
+
+target_any : (op : Operation) (n : ℕ) → takes op (operands.Target 0) ≡ true → takes op (operands.Target n) ≡ true
+target_any op n h = number_any (with_target op) n h
+
+-- what is read --
+
+-- the operation with the stored operand means an instruction
+abbrev pub Reads : Operation → Statement → Type 0
+Reads op s = is_some (operand_of s >>= means op) ≡ true
+
+read_bit : (op : Operation) (s : Statement) → takes op (operands.Bit no_bit) ≡ true → nat_le s.bit 7 ≡ true → InMemory 1 s → Reads op s
+read_bit op s h bit (inl i) = rw (i.area, below s.value 64 i.fits, bit) (bit_any op (bits.Area (record { area = I; at_byte = s.value; bit = s.bit })) h)
+read_bit op s h bit (inr (inl q)) = rw (q.area, below s.value 64 q.fits, bit) (bit_any op (bits.Area (record { area = Q; at_byte = s.value; bit = s.bit })) h)
+read_bit op s h bit (inr (inr m)) = rw (m.area, below s.value 1024 m.fits, bit) (bit_any op (bits.Area (record { area = M; at_byte = s.value; bit = s.bit })) h)
+
+bit : (op : Operation) (locals : ℕ) (s : Statement) → takes op (operands.Bit no_bit) ≡ true → IsHere s → is_bit locals s ≡ true → Reads op s
+bit op locals s h out allowed = let parts = bit_parts locals s out allowed in read_bit op s h parts.0 parts.1
+
+read_byte : (op : Operation) (s : Statement) → takes op (operands.Value no_value) ≡ true → s.bit ≡ 8 → InMemory 1 s → Reads op s
+read_byte op s h unit (inl i) = rw (i.area, unit, i.fits) (value_any op (values.Area (record { area = I; at_byte = s.value; width = widths.Byte })) h)
+read_byte op s h unit (inr (inl q)) = rw (q.area, unit, q.fits) (value_any op (values.Area (record { area = Q; at_byte = s.value; width = widths.Byte })) h)
+read_byte op s h unit (inr (inr m)) = rw (m.area, unit, m.fits) (value_any op (values.Area (record { area = M; at_byte = s.value; width = widths.Byte })) h)
+
+read_word : (op : Operation) (s : Statement) → takes op (operands.Value no_value) ≡ true → s.bit ≡ 9 → InMemory 2 s → Reads op s
+read_word op s h unit (inl i) = rw (i.area, unit, i.fits) (value_any op (values.Area (record { area = I; at_byte = s.value; width = widths.Word })) h)
+read_word op s h unit (inr (inl q)) = rw (q.area, unit, q.fits) (value_any op (values.Area (record { area = Q; at_byte = s.value; width = widths.Word })) h)
+read_word op s h unit (inr (inr m)) = rw (m.area, unit, m.fits) (value_any op (values.Area (record { area = M; at_byte = s.value; width = widths.Word })) h)
+
+read_double : (op : Operation) (s : Statement) → takes op (operands.Value no_value) ≡ true → s.bit ≡ 10 → InMemory 4 s → Reads op s
+read_double op s h unit (inl i) = rw (i.area, unit, i.fits) (value_any op (values.Area (record { area = I; at_byte = s.value; width = widths.Double })) h)
+read_double op s h unit (inr (inl q)) = rw (q.area, unit, q.fits) (value_any op (values.Area (record { area = Q; at_byte = s.value; width = widths.Double })) h)
+read_double op s h unit (inr (inr m)) = rw (m.area, unit, m.fits) (value_any op (values.Area (record { area = M; at_byte = s.value; width = widths.Double })) h)
+
+value : (op : Operation) (locals : ℕ) (s : Statement) → takes op (operands.Value no_value) ≡ true → IsHere s → is_value locals s ≡ true → Reads op s
+value op locals s h out allowed =
+    let parts = and_parts (nat_lt 0 (unit_bytes s.bit)) (is_memory locals (unit_bytes s.bit) s) allowed in
+    let here : InMemory (unit_bytes s.bit) s = in_memory locals (unit_bytes s.bit) s out parts.1 in
+    elim (units s.bit parts.0) [
+      | inl e ↦ read_byte op s h e (subst (λ u. InMemory (unit_bytes u) s) e here)
+      | inr r ↦ elim r [
+        | inl e ↦ read_word op s h e (subst (λ u. InMemory (unit_bytes u) s) e here)
+        | inr e ↦ read_double op s h e (subst (λ u. InMemory (unit_bytes u) s) e here)
+      ]
+    ]
+
+timer : (op : Operation) (s : Statement) → takes op (operands.Timer 0) ≡ true → IsNumber 9 255 s → Reads op s
+timer op s h t = rw (t.area, t.fits) (timer_any op s.value h)
+
+counter : (op : Operation) (s : Statement) → takes op (operands.Counter 0) ≡ true → IsNumber 10 255 s → Reads op s
+counter op s h c = rw (c.area, c.fits) (counter_any op s.value h)
+
+word : (op : Operation) (s : Statement) → takes op (operands.Word 0) ≡ true → IsNumber 11 65535 s → Reads op s
+word op s h w = rw (w.area, w.fits) (word_any op s.value h)
+
+double : (op : Operation) (s : Statement) → takes op (operands.DoubleWord 0) ≡ true → s.area ≡ 12 → Reads op s
+double op s h a = rw a (double_any op s.value h)
+
+target : (op : Operation) (s : Statement) → takes op (operands.Target 0) ≡ true → s.area ≡ 13 → Reads op s
+target op s h a = rw a (target_any op s.value h)
+
+status_bit : (op : Operation) (s : Statement) → takes op (operands.Status 0) ≡ true → IsNumber 14 9 s → Reads op s
+status_bit op s h n = rw (n.area, n.fits) (status_any op s.value h)
+
+status_word : (op : Operation) (s : Statement) → takes op operands.StatusWord ≡ true → s.area ≡ 15 → Reads op s
+status_word op s h a = rw a h
+
+alone : (op : Operation) (s : Statement) → takes op operands.Nothing ≡ true → s.area ≡ 0 → Reads op s
+alone op s h a = rw a h
+
+-- a constant of 16 bits, at most this
+word_up_to : (op : Operation) (most : ℕ) (s : Statement) → takes op (operands.Word 0) ≡ true → most ≤ 65535 → is_up_to areas.Word most s ≡ true → Reads op s
+word_up_to op most s h small allowed =
+    let n = numbered areas.Word most s allowed in
+    let le : s.value ≤ most = leb-true s.value most n.fits in
+    word op s h (record { area = n.area; fits = le-leb s.value 65535 (omega arith) })
+
+timer_or_counter : (op : Operation) (s : Statement) → takes op (operands.Timer 0) ≡ true → takes op (operands.Counter 0) ≡ true → is_timer_or_counter s ≡ true → Reads op s
+timer_or_counter op s ht hc allowed = elim (either s allowed) [ inl t ↦ timer op s ht t | inr c ↦ counter op s hc c ]
+
+constant : (op : Operation) (s : Statement) → takes op (operands.Word 0) ≡ true → takes op (operands.DoubleWord 0) ≡ true → is_constant s ≡ true → Reads op s
+constant op s hw hd allowed =
+    elim (or_cases (is_up_to areas.Word 65535 s) (is_number areas.DoubleWord s) allowed) [
+      | inl x ↦ word op s hw (numbered areas.Word 65535 s x)
+      | inr x ↦ double op s hd (named areas.DoubleWord s x)
+    ]
+
+loaded : (op : Operation) (locals : ℕ) (s : Statement) → takes_all kinds.Loaded op ≡ true → IsHere s → allows kinds.Loaded locals s ≡ true → Reads op s
+loaded op locals s t out h =
+    let t0 = and_parts (takes op (operands.Value no_value)) _ t in
+    let t1 = and_parts (takes op (operands.Word 0)) _ t0.1 in
+    let t2 = and_parts (takes op (operands.DoubleWord 0)) _ t1.1 in
+    let t3 = and_parts (takes op (operands.Timer 0)) _ t2.1 in
+    let t4 = and_parts (takes op (operands.Counter 0)) (takes op operands.StatusWord) t3.1 in
     let a = is_value locals s in
     let b = is_peripheral areas.PeripheralIn s in
     let c = is_constant s in
@@ -330,75 +365,92 @@ load locals s out h =
         | inl w ↦ elim (or_cases ((a || b) || c) d w) [
           | inl x ↦ elim (or_cases (a || b) c x) [
             | inl y ↦ elim (or_cases a b y) [
-              | inl z ↦ load_value locals s out z
+              | inl z ↦ value op locals s t0.0 out z
               | inr z ↦ absurd (both_ways (is_in areas.PeripheralIn s) out.input (peripheral_in areas.PeripheralIn s z))
             ]
-            | inr y ↦ elim (or_cases (is_up_to areas.Word 65535 s) (is_number areas.DoubleWord s) y) [
-              | inl z ↦ load_named s (inl (numbered areas.Word 65535 s z).area)
-              | inr z ↦ load_named s (inr (inl (named areas.DoubleWord s z)))
-            ]
+            | inr y ↦ constant op s t1.0 t2.0 y
           ]
-          | inr x ↦ elim (either s x) [ inl t ↦ load_timer s t | inr k ↦ load_counter s k ]
+          | inr x ↦ timer_or_counter op s t3.0 t4.0 x
         ]
-        | inr w ↦ load_named s (inr (inr (exactly_named areas.StatusWord 0 s w)))
+        | inr w ↦ status_word op s t4.1 (exactly_named areas.StatusWord 0 s w)
       ]
       | inr v ↦ absurd (no_about s out v)
     ]
 
-store_status : (s : Statement) → s.area ≡ 15 → is_some (read_store s) ≡ true
-store_status s a = rw a refl
-
-pub store : (locals : ℕ) (s : Statement) → IsHere s → allows kinds.Stored locals s ≡ true → is_some (read_store s) ≡ true
-store locals s out h =
+stored : (op : Operation) (locals : ℕ) (s : Statement) → takes_all kinds.Stored op ≡ true → IsHere s → allows kinds.Stored locals s ≡ true → Reads op s
+stored op locals s t out h =
+    let parts = and_parts (takes op (operands.Value no_value)) (takes op operands.StatusWord) t in
     elim (or_cases (is_value locals s || is_peripheral areas.PeripheralOut s) (is_exactly areas.StatusWord 0 s) h) [
       | inl x ↦ elim (or_cases (is_value locals s) (is_peripheral areas.PeripheralOut s) x) [
-        | inl y ↦ store_value locals s out y
+        | inl y ↦ value op locals s parts.0 out y
         | inr y ↦ absurd (both_ways (is_in areas.PeripheralOut s) out.output (peripheral_in areas.PeripheralOut s y))
       ]
-      | inr x ↦ store_status s (exactly_named areas.StatusWord 0 s x)
+      | inr x ↦ status_word op s parts.1 (exactly_named areas.StatusWord 0 s x)
     ]
 
-coded_timer : (s : Statement) → IsNumber 9 255 s → is_some (read_coded s) ≡ true
-coded_timer s t = rw (t.area, t.fits) refl
-
-coded_counter : (s : Statement) → IsNumber 10 255 s → is_some (read_coded s) ≡ true
-coded_counter s c = rw (c.area, c.fits) refl
-
-pub coded : (s : Statement) → is_timer_or_counter s ≡ true → is_some (read_coded s) ≡ true
-coded s h = elim (either s h) [ inl t ↦ coded_timer s t | inr c ↦ coded_counter s c ]
-
-pub count : (down : Bool) (s : Statement) → is_up_to areas.Word 255 s ≡ true → is_some (read_count down s) ≡ true
-count down s h = let n = numbered areas.Word 255 s h in rw n.fits refl
-
-add_word : (s : Statement) → IsNumber 11 65535 s → is_some (read_add s) ≡ true
-add_word s n = rw (n.area, n.fits) refl
-
-add_double : (s : Statement) → s.area ≡ 12 → is_some (read_add s) ≡ true
-add_double s a = rw a refl
-
-pub add : (s : Statement) → is_constant s ≡ true → is_some (read_add s) ≡ true
-add s h =
-    elim (or_cases (is_up_to areas.Word 65535 s) (is_number areas.DoubleWord s) h) [
-      | inl x ↦ add_word s (numbered areas.Word 65535 s x)
-      | inr x ↦ add_double s (named areas.DoubleWord s x)
+checked : (op : Operation) (locals : ℕ) (s : Statement) → takes_all kinds.CheckedBit op ≡ true → IsHere s → allows kinds.CheckedBit locals s ≡ true → Reads op s
+checked op locals s t out h =
+    let t0 = and_parts (takes op (operands.Bit no_bit)) _ t in
+    let t1 = and_parts (takes op (operands.Timer 0)) _ t0.1 in
+    let t2 = and_parts (takes op (operands.Counter 0)) (takes op (operands.Status 0)) t1.1 in
+    elim (or_cases (is_bit locals s || is_timer_or_counter s) (is_up_to areas.Status 9 s) h) [
+      | inl x ↦ elim (or_cases (is_bit locals s) (is_timer_or_counter s) x) [
+        | inl b ↦ bit op locals s t0.0 out b
+        | inr y ↦ timer_or_counter op s t1.0 t2.0 y
+      ]
+      | inr z ↦ status_bit op s t2.1 (numbered areas.Status 9 s z)
     ]
 
-shift_alone : (op : Shift) (s : Statement) → s.area ≡ 0 → is_some (read_shift op s) ≡ true
-shift_alone op s a = rw a refl
-
-shift_by : (op : Shift) (s : Statement) → s.area ≡ 11 → nat_le s.value 255 ≡ true → is_some (read_shift op s) ≡ true
-shift_by op s a fits = rw (a, fits) refl
-
-pub shift : (op : Shift) (most : ℕ) (s : Statement) → most ≤ 255 → allows (kinds.AtMost most) 0 s ≡ true → is_some (read_shift op s) ≡ true
-shift op most s small h =
+-- an operation that takes each form of a kind means an instruction with each operand of the kind
+pub reads : (kind : OperandKind) (op : Operation) (locals : ℕ) (s : Statement) → takes_all kind op ≡ true → IsHere s → allows kind locals s ≡ true → Reads op s
+reads kinds.Nothing op locals s t out h = alone op s t (exactly_named areas.Nothing 0 s h)
+reads kinds.CheckedBit op locals s t out h = checked op locals s t out h
+reads kinds.WrittenBit op locals s t out h = bit op locals s t out h
+reads kinds.SetBit op locals s t out h =
+    let parts = and_parts (takes op (operands.Bit no_bit)) (takes op (operands.Counter 0)) t in
+    elim (or_cases (is_bit locals s) (is_up_to areas.Counter 255 s) h) [
+      | inl b ↦ bit op locals s parts.0 out b
+      | inr c ↦ counter op s parts.1 (numbered areas.Counter 255 s c)
+    ]
+reads kinds.ResetBit op locals s t out h =
+    let t0 = and_parts (takes op (operands.Bit no_bit)) _ t in
+    let t1 = and_parts (takes op (operands.Timer 0)) (takes op (operands.Counter 0)) t0.1 in
+    elim (or_cases (is_bit locals s) (is_timer_or_counter s) h) [
+      | inl b ↦ bit op locals s t0.0 out b
+      | inr y ↦ timer_or_counter op s t1.0 t1.1 y
+    ]
+reads kinds.Loaded op locals s t out h = loaded op locals s t out h
+reads kinds.Stored op locals s t out h = stored op locals s t out h
+reads kinds.Coded op locals s t out h =
+    let parts = and_parts (takes op (operands.Timer 0)) (takes op (operands.Counter 0)) t in timer_or_counter op s parts.0 parts.1 h
+reads kinds.Addend op locals s t out h =
+    let parts = and_parts (takes op (operands.Word 0)) (takes op (operands.DoubleWord 0)) t in constant op s parts.0 parts.1 h
+reads (kinds.UpTo most) op locals s t out h =
+    let parts = and_parts (nat_le most 65535) (takes op (operands.Word 0)) t in word_up_to op most s parts.1 (leb-true most 65535 parts.0) h
+reads (kinds.Exactly number) op locals s t out h =
+    let parts = and_parts (nat_le number 65535) (takes op (operands.Word 0)) t in
+    let e : s.value ≡ number = eqb-true s.value number (and_parts (is_number areas.Word s) (s.value == number) h).1 in
+    let le : number ≤ 65535 = leb-true number 65535 parts.0 in
+    word op s parts.1 (record { area = exactly_named areas.Word number s h; fits = le-leb s.value 65535 (omega arith) })
+reads (kinds.AtMost most) op locals s t out h =
+    let t0 = and_parts (nat_le most 65535) _ t in
+    let t1 = and_parts (takes op operands.Nothing) (takes op (operands.Word 0)) t0.1 in
     elim (or_cases (is_exactly areas.Nothing 0 s) (is_up_to areas.Word most s) h) [
-      | inl x ↦ shift_alone op s (exactly_named areas.Nothing 0 s x)
-      | inr x ↦ (
-          let n = numbered areas.Word most s x in
-          let le : s.value ≤ most = leb-true s.value most n.fits in
-          shift_by op s n.area (le-leb s.value 255 (omega arith))
-          )
+      | inl x ↦ alone op s t1.0 (exactly_named areas.Nothing 0 s x)
+      | inr x ↦ word_up_to op most s t1.1 (leb-true most 65535 t0.0) x
     ]
-
-pub number_fits : (area : OperandArea) (s : Statement) → is_up_to area 255 s ≡ true → nat_le s.value 255 ≡ true
-number_fits area s h = (numbered area 255 s h).fits
+reads kinds.Mask op locals s t out h =
+    let parts = and_parts (takes op operands.Nothing) (takes op (operands.DoubleWord 0)) t in
+    elim (or_cases (is_exactly areas.Nothing 0 s) (is_number areas.DoubleWord s) h) [
+      | inl x ↦ alone op s parts.0 (exactly_named areas.Nothing 0 s x)
+      | inr x ↦ double op s parts.1 (named areas.DoubleWord s x)
+    ]
+reads kinds.Target op locals s t out h = target op s t (named areas.Target s h)
+reads kinds.Timer op locals s t out h = timer op s t (numbered areas.Timer 255 s h)
+reads kinds.Counter op locals s t out h = counter op s t (numbered areas.Counter 255 s h)
+reads kinds.DataBlock op locals s t out h = absurd cc
+reads kinds.InstanceBlock op locals s t out h = absurd cc
+reads kinds.Function op locals s t out h = absurd cc
+reads kinds.FunctionBlock op locals s t out h = absurd cc
+reads kinds.FunctionBlockWithData op locals s t out h = absurd cc
+reads (kinds.SystemFunction number) op locals s t out h = absurd cc

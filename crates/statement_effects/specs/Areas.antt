@@ -9,7 +9,7 @@ use Rattle.bit_unit.specs.Steps.{is_zone_off}
 use Rattle.timers.specs.State as timers
 use Rattle.counters.specs.State as counters
 use Rattle.statement_effects.specs.declared.areas.Registers.{Registers}
-use Rattle.statement_effects.specs.declared.areas.Memory.{Memory}
+use Rattle.statement_effects.specs.State.{Memory}
 use Rattle.statement_effects.specs.declared.instruction.ByteArea.{ByteArea}
 use Rattle.statement_effects.specs.declared.instruction.ByteArea.TheVariants.{I, Q, M}
 use Rattle.statement_effects.specs.declared.instruction.BitPlace.{BitPlace}

@@ -7,7 +7,7 @@ use Rattle.bit_unit.specs.declared.unit.BitFault.{BitFault}
 use Rattle.bit_unit.specs.declared.unit.BitFault.TheVariants.{NestingFull, NestingEmpty, McrFull, McrEmpty}
 use Rattle.bit_unit.specs.Steps.{Step, group_opened, group_closed, zone_opened, zone_closed}
 use Rattle.statement_effects.specs.declared.areas.Registers.{Registers}
-use Rattle.statement_effects.specs.declared.areas.Memory.{Memory}
+use Rattle.statement_effects.specs.State.{Memory}
 use Rattle.statement_effects.specs.declared.instruction.BitPlace.{BitPlace}
 use Rattle.statement_effects.specs.declared.instruction.BitInstruction.{BitInstruction}
 use Rattle.statement_effects.specs.declared.instruction.BitInstruction.TheVariants as bits
@@ -21,17 +21,17 @@ use Rattle.statement_effects.specs.Areas.{bit_at, with_bit_at, with_status, is_o
 abbrev pub with_bit_where : Bool → Memory → BitPlace → Bool → Memory
 with_bit_where condition memory place value = if condition then with_bit_at memory place value else memory
 
--- a statement on a bit: in a zone that is off `=` writes 0, and S and R write nothing
-abbrev pub effect_bit : BitInstruction → Memory → Memory
-effect_bit (bits.Check how place) memory =
+-- a statement on the bit at a place: in a zone that is off `=` writes 0, and S and R write nothing
+abbrev pub effect_bit : BitInstruction → BitPlace → Memory → Memory
+effect_bit (bits.Check how) place memory =
     with_status memory (checked how (bit_at memory place) memory.registers.status)
-effect_bit (bits.Assign place) memory =
+effect_bit bits.Assign place memory =
     with_status (with_bit_at memory place (memory.registers.status.rlo && not (is_off memory))) (write_row memory.registers.status)
-effect_bit (bits.Set place) memory =
+effect_bit bits.Set place memory =
     with_status (with_bit_where (memory.registers.status.rlo && not (is_off memory)) memory place true) (write_row memory.registers.status)
-effect_bit (bits.Reset place) memory =
+effect_bit bits.Reset place memory =
     with_status (with_bit_where (memory.registers.status.rlo && not (is_off memory)) memory place false) (write_row memory.registers.status)
-effect_bit (bits.Edge rising place) memory =
+effect_bit (bits.Edge rising) place memory =
     with_status (with_bit_at memory place (edge_bit memory.registers.status)) (edged rising (bit_at memory place) memory.registers.status)
 
 -- the status operand of a number

@@ -4,7 +4,7 @@ use Rattle.status_word.specs.BitRows.{checked, timer_row}
 use Rattle.s5_time.specs.Bcd.{is_bcd, bcd_value, bcd_of}
 use Rattle.counters.specs.Rule.{counted_up, counted_down, sets, set_to, reset, enabled}
 use Rattle.counters.specs.State.{CounterState, fresh}
-use Rattle.statement_effects.specs.declared.areas.Memory.{Memory}
+use Rattle.statement_effects.specs.State.{Memory}
 use Rattle.statement_effects.specs.declared.instruction.CounterOperation.{CounterOperation}
 use Rattle.statement_effects.specs.declared.instruction.CounterOperation.TheVariants.{Up, Down, Set, Reset, Enable, Check, Load, LoadCoded}
 use Rattle.statement_effects.specs.Areas.{with_status}

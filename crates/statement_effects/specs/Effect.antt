@@ -2,14 +2,15 @@
 use Rattle.std.specs.Prelude.{ℕ, Option, Some, None, Result, Ok, Err}
 use Rattle.s7_base.specs.declared.statement.Statement.{Statement}
 use Rattle.statement_effects.specs.declared.areas.Registers.{Registers}
-use Rattle.statement_effects.specs.declared.areas.Memory.{Memory}
+use Rattle.statement_effects.specs.State.{Memory}
 use Rattle.statement_effects.specs.declared.instruction.Instruction.{Instruction}
 use Rattle.statement_effects.specs.declared.instruction.Instruction.TheVariants as groups
 use Rattle.statement_effects.specs.declared.instruction.Flow.{Flow}
 use Rattle.statement_effects.specs.declared.instruction.Flow.TheVariants.{Next, End, Fail, AskNow}
 use Rattle.statement_effects.specs.Areas.{with_registers, with_status, with_accus}
+use Rattle.statement_effects.specs.Resolving.{resolve_bit, resolve_value, at_bit, at_value}
 use Rattle.statement_effects.specs.BitEffect.{effect_bit, effect_status, effect_group}
-use Rattle.statement_effects.specs.MoveEffect.{effect_move, effect_accu}
+use Rattle.statement_effects.specs.MoveEffect.{effect_move, effect_direct, effect_accu}
 use Rattle.statement_effects.specs.NumberEffect.{effect_number, effect_word}
 use Rattle.statement_effects.specs.JumpEffect.{effect_jump, effect_end, effect_end_when_set}
 use Rattle.statement_effects.specs.TimerEffect.{effect_timer}
@@ -30,10 +31,11 @@ abbrev pub led : Memory → Registers × Flow → Memory × Flow
 led memory after = (with_registers memory after.0, after.1)
 
 abbrev pub effect : Instruction → Memory → Memory × Flow
-effect (groups.Bit i) memory = (effect_bit i memory, Next)
+effect (groups.Bit i operand) memory = onward memory (at_bit (effect_bit i) (resolve_bit operand memory))
 effect (groups.Status i) memory = (with_status memory (effect_status i memory.registers.status), Next)
 effect (groups.Group i) memory = onward_with memory (effect_group i memory.registers)
-effect (groups.Move i) memory = (effect_move i memory, Next)
+effect (groups.Move i operand) memory = onward memory (at_value (effect_move i) (resolve_value operand memory))
+effect (groups.Direct i) memory = (effect_direct i memory, Next)
 effect (groups.Accu i) memory = (with_accus memory (effect_accu i memory.registers.accus), Next)
 effect (groups.Number i) memory = onward_with memory (effect_number i memory.registers)
 effect (groups.Word i) memory = (with_registers memory (effect_word i memory.registers), Next)

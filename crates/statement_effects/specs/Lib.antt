@@ -1,10 +1,14 @@
 pub mod Areas
 pub mod BitEffect
 pub mod CounterEffect
+pub mod Decoding
 pub mod Effect
 pub mod JumpEffect
 pub mod MoveEffect
 pub mod NumberEffect
+pub mod Placed
 pub mod Played
 pub mod Reading
+pub mod Resolving
+pub mod State
 pub mod TimerEffect

@@ -3,9 +3,12 @@ use Rattle.std.specs.Prelude.{ℕ, ◌%◌, ◌^◌, if◌then◌else◌}
 use Rattle.status_word.specs.Status.{bits_of, status_of}
 use Rattle.accumulators.specs.declared.accus.Accus.{Accus}
 use Rattle.accumulators.specs.Moves.{loaded, moved, constant_added, byte_counted}
-use Rattle.statement_effects.specs.declared.areas.Memory.{Memory}
+use Rattle.statement_effects.specs.State.{Memory}
 use Rattle.statement_effects.specs.declared.instruction.MoveInstruction.{MoveInstruction}
-use Rattle.statement_effects.specs.declared.instruction.MoveInstruction.TheVariants.{Load, LoadConstant, LoadStatus, Store, StoreStatus}
+use Rattle.statement_effects.specs.declared.instruction.MoveInstruction.TheVariants.{Load, Store}
+use Rattle.statement_effects.specs.declared.instruction.DirectInstruction.{DirectInstruction}
+use Rattle.statement_effects.specs.declared.instruction.DirectInstruction.TheVariants.{LoadConstant, LoadStatus, StoreStatus}
+use Rattle.statement_effects.specs.declared.instruction.ValuePlace.{ValuePlace}
 use Rattle.statement_effects.specs.declared.instruction.AccuInstruction.{AccuInstruction}
 use Rattle.statement_effects.specs.declared.instruction.AccuInstruction.TheVariants as accus
 use Rattle.statement_effects.specs.Areas.{value_at, with_value_at, with_accus, with_status, is_off}
@@ -18,13 +21,16 @@ with_loaded memory value = with_accus memory (loaded value memory.registers.accu
 abbrev pub transferred : Memory → ℕ
 transferred memory = if is_off memory then 0 else memory.registers.accus.accu1
 
--- L and T
-abbrev pub effect_move : MoveInstruction → Memory → Memory
-effect_move (Load place) memory = with_loaded memory (value_at memory place)
-effect_move (LoadConstant value) memory = with_loaded memory value
-effect_move LoadStatus memory = with_loaded memory (bits_of memory.registers.status)
-effect_move (Store place) memory = with_value_at memory place (transferred memory)
-effect_move StoreStatus memory = with_status memory (status_of (transferred memory % 2 ^ 9))
+-- L and T of the value at a place
+abbrev pub effect_move : MoveInstruction → ValuePlace → Memory → Memory
+effect_move Load place memory = with_loaded memory (value_at memory place)
+effect_move Store place memory = with_value_at memory place (transferred memory)
+
+-- L and T without a place
+abbrev pub effect_direct : DirectInstruction → Memory → Memory
+effect_direct (LoadConstant value) memory = with_loaded memory value
+effect_direct LoadStatus memory = with_loaded memory (bits_of memory.registers.status)
+effect_direct StoreStatus memory = with_status memory (status_of (transferred memory % 2 ^ 9))
 
 -- the statements on accumulators that leave the status word
 abbrev pub effect_accu : AccuInstruction → Accus → Accus

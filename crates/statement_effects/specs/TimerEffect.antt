@@ -3,10 +3,10 @@ use Rattle.std.specs.Prelude.{ℕ, ◌%◌, Bool, ◌&&◌, not, if◌then◌els
 use Rattle.status_word.specs.BitRows.{checked, timer_row}
 use Rattle.s5_time.specs.Bcd.{is_bcd}
 use Rattle.s5_time.specs.Duration.{duration_of, word_of}
-use Rattle.timers.specs.declared.kind.TimerKind.{TimerKind}
+use Rattle.instruction_set.specs.declared.operation.TimerKind.{TimerKind}
 use Rattle.timers.specs.Rule.{output, rest, starts, started, reset, enabled}
 use Rattle.timers.specs.State.{TimerState, fresh}
-use Rattle.statement_effects.specs.declared.areas.Memory.{Memory}
+use Rattle.statement_effects.specs.State.{Memory}
 use Rattle.statement_effects.specs.declared.instruction.TimerOperation.{TimerOperation}
 use Rattle.statement_effects.specs.declared.instruction.TimerOperation.TheVariants as plain
 use Rattle.statement_effects.specs.declared.instruction.TimedOperation.{TimedOperation}

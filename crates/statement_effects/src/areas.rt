@@ -1,11 +1,13 @@
 //! What the statements see.
-ghost use Rattle.std.specs.Prelude.{◌≡◌};
-ghost use Rattle.statement_effects.specs.Areas.{clear_registers, start_memory};
+ghost use Rattle.std.specs.Prelude.{◌≡◌, length, slice_get};
+ghost use Rattle.statement_effects.specs.Areas.{clear_registers, with_registers, bytes_of, start_memory};
 
+use crate::instruction::ByteArea;
 use accumulators::Accus;
 use bit_unit::BitUnit;
 use counters::Counter;
 use status_word::StatusWord;
+use std::marker::Model;
 use timers::Timer;
 
 /// The registers of a block: the status word, the accumulators, and the open groups and zones.
@@ -32,12 +34,20 @@ impl Registers {
 /// The areas and the registers: the input image, the output image, bit memory, timers, counters and registers.
 #[derive(Debug, Drop)]
 pub struct Memory {
-    pub inputs: [u8; 64],
-    pub outputs: [u8; 64],
-    pub flags: [u8; 1024],
-    pub timers: [Timer; 256],
-    pub counters: [Counter; 256],
-    pub registers: Registers,
+    pub(crate) inputs: [u8; 64],
+    pub(crate) outputs: [u8; 64],
+    pub(crate) flags: [u8; 1024],
+    pub(crate) timers: [Timer; 256],
+    pub(crate) counters: [Counter; 256],
+    pub(crate) registers: Registers,
+}
+
+impl Model for Memory {
+    ghost use Rattle.statement_effects.specs.State as state;
+
+    ghost Value = { state.Memory };
+
+    ghost view = { λ m. record { inputs = m.inputs; outputs = m.outputs; flags = m.flags; timers = m.timers; counters = m.counters; registers = m.registers } };
 }
 
 impl Memory {
@@ -53,5 +63,73 @@ impl Memory {
             counters: [Counter::new(); 256],
             registers: Registers::clear(),
         }
+    }
+
+    /// Returns the registers.
+    pub fn registers(&self) -> Registers
+        ensures { result ≡ self.now.registers }
+    {
+        self.registers
+    }
+
+    /// Puts registers in place of those that it has.
+    pub fn set_registers(&mut self, registers: Registers)
+        ensures { self.new ≡ with_registers self.old registers }
+    {
+        self.registers = registers;
+    }
+
+    /// Returns the output image.
+    pub fn outputs(&self) -> [u8; 64]
+        ensures { result ≡ self.now.outputs }
+    {
+        self.outputs
+    }
+
+    /// Puts an input image in place of the one that it has.
+    pub fn set_inputs(&mut self, image: [u8; 64])
+        ensures { self.new ≡ record self.old { inputs = image } }
+    {
+        self.inputs = image;
+    }
+
+    /// Returns the byte of an area at an address. None exactly where the area has none.
+    pub fn byte(&self, area: ByteArea, at: usize) -> Option<u8>
+        ensures { result ≡ slice_get (bytes_of self.now area) at }
+    {
+        match area {
+            ByteArea::I => self.inputs.get(at).copied(),
+            ByteArea::Q => self.outputs.get(at).copied(),
+            ByteArea::M => self.flags.get(at).copied(),
+        }
+    }
+
+    /// Returns the timer of a number. None exactly where there is none.
+    pub fn find_timer(&self, n: usize) -> Option<Timer>
+        ensures { result ≡ slice_get self.now.timers n }
+    {
+        self.timers.get(n).copied()
+    }
+
+    /// Returns the counter of a number. None exactly where there is none.
+    pub fn find_counter(&self, n: usize) -> Option<Counter>
+        ensures { result ≡ slice_get self.now.counters n }
+    {
+        self.counters.get(n).copied()
+    }
+
+    /// Shows how many bytes, timers and counters there are.
+    pub fn show_sizes(&self)
+        ensures inputs { length self.now.inputs ≡ 64 }
+        ensures outputs { length self.now.outputs ≡ 64 }
+        ensures flags { length self.now.flags ≡ 1024 }
+        ensures timers { length self.now.timers ≡ 256 }
+        ensures counters { length self.now.counters ≡ 256 }
+    {
+        let _inputs: &[u8] = &self.inputs;
+        let _outputs: &[u8] = &self.outputs;
+        let _flags: &[u8] = &self.flags;
+        let _timers: &[Timer] = &self.timers;
+        let _counters: &[Counter] = &self.counters;
     }
 }

@@ -1,10 +1,13 @@
 //! Statements on bits, on the status word, and brackets.
-ghost use Rattle.std.specs.Prelude.{◌≡◌, ◌<◌, ◌≤◌, not, ◌&&◌, OnOk, OnErr, IfErr};
+ghost use Rattle.std.specs.Prelude.{◌≡◌, ◌<◌, ◌≤◌, not, ◌&&◌, OnOk, OnErr, IfErr, Ok, Err};
 ghost use Rattle.statement_effects.specs.Areas.{bit_of, with_bit, bit_at, with_bit_at, is_off};
-ghost use Rattle.statement_effects.specs.Reading.{IsBitPlaced, HasBit, HasNumber};
+ghost use Rattle.statement_effects.specs.Placed.{IsBitPlaced, IsBitOperand, HasNumber};
+ghost use Rattle.statement_effects.specs.Resolving.{resolve_bit, at_bit};
 ghost use Rattle.statement_effects.specs.BitEffect.{with_bit_where, effect_bit, status_operand, effect_status, error_of, effect_group};
 
-use crate::instruction::{BitInstruction, BitPlace, ByteArea, GroupInstruction, StatusInstruction};
+use crate::instruction::{
+    BitInstruction, BitOperand, BitPlace, ByteArea, GroupInstruction, StatusInstruction,
+};
 use crate::{Memory, Registers};
 use bit_unit::BitFault;
 use status_word::StatusWord;
@@ -72,35 +75,50 @@ impl Memory {
         }
     }
 
-    /// A statement on a bit of an area.
-    pub(crate) fn execute_bit(&mut self, i: BitInstruction)
-        requires { HasBit i }
-        ensures { self.new ≡ effect_bit i self.old }
+    /// A statement on the bit at a place.
+    fn execute_at_bit(&mut self, i: BitInstruction, place: BitPlace)
+        requires { IsBitPlaced place }
+        ensures { self.new ≡ effect_bit i place self.old }
     {
         match i {
-            BitInstruction::Check(how, place) => {
+            BitInstruction::Check(how) => {
                 let operand = self.read_bit(place);
                 self.registers.status.check(how, operand);
             }
-            BitInstruction::Assign(place) => {
+            BitInstruction::Assign => {
                 let value = self.registers.status.rlo && !self.is_off();
                 self.write_bit(place, value);
                 self.registers.status.after_write();
             }
-            BitInstruction::Set(place) => {
+            BitInstruction::Set => {
                 self.write_bit_set(place, true);
                 self.registers.status.after_write();
             }
-            BitInstruction::Reset(place) => {
+            BitInstruction::Reset => {
                 self.write_bit_set(place, false);
                 self.registers.status.after_write();
             }
-            BitInstruction::Edge(rising, place) => {
+            BitInstruction::Edge(rising) => {
                 let old = self.read_bit(place);
                 let now = self.registers.status.edge(rising, old);
                 self.write_bit(place, now);
             }
         }
+    }
+
+    /// A statement on a bit.
+    ///
+    /// # Errors
+    /// The number of the error of a bit that is nowhere. Nothing changes.
+    pub(crate) fn execute_bit(&mut self, i: BitInstruction, operand: BitOperand) -> Result<(), u8>
+        requires { IsBitOperand operand }
+        ensures ok { OnOk result (at_bit (effect_bit i) (resolve_bit operand self.old) ≡ Ok self.new) }
+        ensures err { IfErr result (λ error. at_bit (effect_bit i) (resolve_bit operand self.old) ≡ Err error) }
+        ensures same { OnErr result (self.new ≡ self.old) }
+    {
+        let place = self.resolve_bit(operand)?;
+        self.execute_at_bit(i, place);
+        Ok(())
     }
 }
 

@@ -1,6 +1,6 @@
 //! What a statement does.
 ghost use Rattle.std.specs.Prelude.{◌≡◌, OnOk, IfErr};
-ghost use Rattle.statement_effects.specs.Reading.{HasOperand};
+ghost use Rattle.statement_effects.specs.Placed.{HasOperand};
 ghost use Rattle.statement_effects.specs.Effect.{effect, effect_of};
 
 use crate::Memory;
@@ -29,10 +29,11 @@ impl Memory {
         ensures asks { result ≡ Flow.AskNow → self.new ≡ self.old }
     {
         match i {
-            Instruction::Bit(i) => self.execute_bit(i),
+            Instruction::Bit(i, operand) => return flow_of(self.execute_bit(i, operand)),
             Instruction::Status(i) => execute_status(&mut self.registers.status, i),
             Instruction::Group(i) => return flow_of(self.registers.execute_group(i)),
-            Instruction::Move(i) => self.execute_move(i),
+            Instruction::Move(i, operand) => return flow_of(self.execute_move(i, operand)),
+            Instruction::Direct(i) => self.execute_direct(i),
             Instruction::Accu(i) => execute_accu(&mut self.registers.accus, i),
             Instruction::Number(i) => return flow_of(self.registers.execute_number(i)),
             Instruction::Word(i) => self.registers.execute_word(i),

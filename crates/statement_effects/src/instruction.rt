@@ -39,19 +39,56 @@ pub struct ValuePlace {
     pub width: Width,
 }
 
-/// Statements on a bit of an area.
+/// A bit that a statement names. Its place is found when the statement is executed.
+#[derive(Clone, Copy, Debug, PartialEq, Eq)]
+pub enum BitOperand {
+    /// A bit of an area whose bytes are always there.
+    Area(BitPlace),
+}
+
+/// A value that a statement names. Its place is found when the statement is executed.
+#[derive(Clone, Copy, Debug, PartialEq, Eq)]
+pub enum ValueOperand {
+    /// A value of an area whose bytes are always there.
+    Area(ValuePlace),
+}
+
+/// The operand of a statement.
+#[derive(Clone, Copy, Debug, PartialEq, Eq)]
+pub enum Operand {
+    /// None.
+    Nothing,
+    Bit(BitOperand),
+    Value(ValueOperand),
+    /// The timer of this number.
+    Timer(u8),
+    /// The counter of this number.
+    Counter(u8),
+    /// A constant of 16 bits.
+    Word(u16),
+    /// A constant of 32 bits.
+    DoubleWord(u32),
+    /// The number of a statement of the block.
+    Target(u32),
+    /// The status operand of this number, 0 to 9: `BR OV OS UO ==0 <>0 >0 <0 >=0 <=0`.
+    Status(u8),
+    /// `STW`
+    StatusWord,
+}
+
+/// Statements on a bit.
 #[derive(Clone, Copy, Debug, PartialEq, Eq)]
 pub enum BitInstruction {
     /// `A AN O ON X XN`
-    Check(Check, BitPlace),
+    Check(Check),
     /// `=`
-    Assign(BitPlace),
+    Assign,
     /// `S`
-    Set(BitPlace),
+    Set,
     /// `R`
-    Reset(BitPlace),
+    Reset,
     /// `FP` where it rises, else `FN`
-    Edge(bool, BitPlace),
+    Edge(bool),
 }
 
 /// Statements on the status word alone.
@@ -86,17 +123,22 @@ pub enum GroupInstruction {
     Activate(bool),
 }
 
-/// Loads and transfers.
+/// Loads and transfers of values.
 #[derive(Clone, Copy, Debug, PartialEq, Eq)]
 pub enum MoveInstruction {
-    /// `L` of a value of an area
-    Load(ValuePlace),
+    /// `L`
+    Load,
+    /// `T`
+    Store,
+}
+
+/// Loads and transfers without a place.
+#[derive(Clone, Copy, Debug, PartialEq, Eq)]
+pub enum DirectInstruction {
     /// `L` of a constant
     LoadConstant(u32),
     /// `L STW`
     LoadStatus,
-    /// `T` to a value of an area
-    Store(ValuePlace),
     /// `T STW`
     StoreStatus,
 }
@@ -195,10 +237,11 @@ pub enum CounterOperation {
 /// What a statement means.
 #[derive(Clone, Copy, Debug, PartialEq, Eq)]
 pub enum Instruction {
-    Bit(BitInstruction),
+    Bit(BitInstruction, BitOperand),
     Status(StatusInstruction),
     Group(GroupInstruction),
-    Move(MoveInstruction),
+    Move(MoveInstruction, ValueOperand),
+    Direct(DirectInstruction),
     Accu(AccuInstruction),
     Number(NumberInstruction),
     Word(WordInstruction),

@@ -5,6 +5,7 @@ mod areas;
 mod bits;
 mod clocks;
 mod counting;
+mod decoding;
 mod execute;
 mod instruction;
 mod jumps;
@@ -12,12 +13,14 @@ mod laws;
 mod moves;
 mod numbers;
 mod reading;
+mod resolving;
 
 pub use areas::{Memory, Registers};
 pub use instruction::{
-    AccuInstruction, BitInstruction, BitPlace, ByteArea, CounterOperation, Flow, GroupInstruction,
-    Instruction, JumpInstruction, MoveInstruction, NumberInstruction, StatusInstruction,
-    TimedOperation, TimerOperation, ValuePlace, Width, WordInstruction,
+    AccuInstruction, BitInstruction, BitOperand, BitPlace, ByteArea, CounterOperation,
+    DirectInstruction, Flow, GroupInstruction, Instruction, JumpInstruction, MoveInstruction,
+    NumberInstruction, Operand, StatusInstruction, TimedOperation, TimerOperation, ValueOperand,
+    ValuePlace, Width, WordInstruction,
 };
 pub use laws::played_statements_mean_instructions;
 pub use reading::instruction_of;

@@ -1,11 +1,14 @@
 //! Loads, transfers, and moves between accumulators.
-ghost use Rattle.std.specs.Prelude.{◌≡◌, ◌+◌, ◌*◌, ◌<◌, ◌≤◌, ◌^◌, ◌%◌, length, slice_index};
+ghost use Rattle.std.specs.Prelude.{◌≡◌, ◌+◌, ◌*◌, ◌<◌, ◌≤◌, ◌^◌, ◌%◌, length, slice_index, OnOk, OnErr, IfErr, Ok, Err};
 ghost use Rattle.statement_effects.specs.Areas.{value_in, with_value_in, value_at, with_value_at, bytes_in, is_off};
-ghost use Rattle.statement_effects.specs.Reading.{IsValuePlaced, HasValue};
-ghost use Rattle.statement_effects.specs.MoveEffect.{with_loaded, transferred, effect_move, effect_accu};
+ghost use Rattle.statement_effects.specs.Placed.{IsValuePlaced, IsValueOperand};
+ghost use Rattle.statement_effects.specs.Resolving.{resolve_value, at_value};
+ghost use Rattle.statement_effects.specs.MoveEffect.{with_loaded, transferred, effect_move, effect_direct, effect_accu};
 
 use crate::Memory;
-use crate::instruction::{AccuInstruction, ByteArea, MoveInstruction, ValuePlace, Width};
+use crate::instruction::{
+    AccuInstruction, ByteArea, DirectInstruction, MoveInstruction, ValueOperand, ValuePlace, Width,
+};
 use accumulators::Accus;
 use status_word::StatusWord;
 
@@ -96,26 +99,53 @@ impl Memory {
         self.registers.accus.load(value);
     }
 
-    /// `L` and `T`.
-    pub(crate) fn execute_move(&mut self, i: MoveInstruction)
-        requires { HasValue i }
-        ensures { self.new ≡ effect_move i self.old }
+    /// `L` and `T` of the value at a place.
+    fn execute_at_value(&mut self, i: MoveInstruction, place: ValuePlace)
+        requires { IsValuePlaced place }
+        ensures { self.new ≡ effect_move i place self.old }
     {
         match i {
-            MoveInstruction::Load(place) => {
+            MoveInstruction::Load => {
                 let value = self.read_value(place);
                 self.load(value);
             }
-            MoveInstruction::LoadConstant(value) => self.load(value),
-            MoveInstruction::LoadStatus => {
-                let bits = self.registers.status.to_bits();
-                self.load(u32::from(bits));
-            }
-            MoveInstruction::Store(place) => {
+            MoveInstruction::Store => {
                 let value = self.transferred();
                 self.write_value(place, value);
             }
-            MoveInstruction::StoreStatus => {
+        }
+    }
+
+    /// `L` and `T` of a value.
+    ///
+    /// # Errors
+    /// The number of the error of a value that is nowhere. Nothing changes.
+    pub(crate) fn execute_move(
+        &mut self,
+        i: MoveInstruction,
+        operand: ValueOperand,
+    ) -> Result<(), u8>
+        requires { IsValueOperand operand }
+        ensures ok { OnOk result (at_value (effect_move i) (resolve_value operand self.old) ≡ Ok self.new) }
+        ensures err { IfErr result (λ error. at_value (effect_move i) (resolve_value operand self.old) ≡ Err error) }
+        ensures same { OnErr result (self.new ≡ self.old) }
+    {
+        let place = self.resolve_value(operand)?;
+        self.execute_at_value(i, place);
+        Ok(())
+    }
+
+    /// `L` and `T` without a place.
+    pub(crate) fn execute_direct(&mut self, i: DirectInstruction)
+        ensures { self.new ≡ effect_direct i self.old }
+    {
+        match i {
+            DirectInstruction::LoadConstant(value) => self.load(value),
+            DirectInstruction::LoadStatus => {
+                let bits = self.registers.status.to_bits();
+                self.load(u32::from(bits));
+            }
+            DirectInstruction::StoreStatus => {
                 let bits = (self.transferred() % 512) as u16;
                 self.registers.status = StatusWord::of_bits(bits);
             }

@@ -1,8 +1,8 @@
 -- The rows of the bit statements: each gives OR, STA, RLO and /FC, as the table's columns do.
 use Rattle.std.specs.Prelude.{Bool, true, false, not, ◌&&◌, ◌||◌, if◌then◌else◌}
 use Rattle.status_word.specs.declared.status.StatusWord.{StatusWord}
-use Rattle.status_word.specs.declared.status.Check.{Check}
-use Rattle.status_word.specs.declared.status.Check.TheVariants.{And, AndNot, Or, OrNot, Xor, XorNot}
+use Rattle.instruction_set.specs.declared.operation.Check.{Check}
+use Rattle.instruction_set.specs.declared.operation.Check.TheVariants.{And, AndNot, Or, OrNot, Xor, XorNot}
 use Rattle.status_word.specs.Status.{row}
 
 -- the result of an A with the value v: a first check begins anew, and OR is added to either

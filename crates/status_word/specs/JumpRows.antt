@@ -1,8 +1,8 @@
 -- Jumps, calls and the status operands.
 use Rattle.std.specs.Prelude.{Bool, true, false, not, ◌&&◌, ◌||◌, if◌then◌else◌, List, [], ◌∷◌}
 use Rattle.status_word.specs.declared.status.StatusWord.{StatusWord}
-use Rattle.status_word.specs.declared.jumps.Jump.{Jump}
-use Rattle.status_word.specs.declared.jumps.Jump.TheVariants.{Ju, Jc, Jcn, Jcb, Jnb, Jbi, Jnbi, Jo, Jos, Jz, Jn, Jp, Jm, Jpz, Jmz, Juo}
+use Rattle.instruction_set.specs.declared.operation.Jump.{Jump}
+use Rattle.instruction_set.specs.declared.operation.Jump.TheVariants.{Ju, Jc, Jcn, Jcb, Jnb, Jbi, Jnbi, Jo, Jos, Jz, Jn, Jp, Jm, Jpz, Jmz, Juo}
 use Rattle.status_word.specs.Status.{row}
 
 -- CC1 CC0 is 00

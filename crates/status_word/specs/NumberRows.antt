@@ -2,8 +2,8 @@
 use Rattle.std.specs.Prelude.{ℕ, ◌/◌, ◌%◌, ◌==◌, ℤ, int_lt, int_le, Bool, true, false, not, ◌||◌}
 use Rattle.std.specs.Ordering.{int_eq}
 use Rattle.status_word.specs.declared.status.StatusWord.{StatusWord}
-use Rattle.status_word.specs.declared.numbers.Cmp.{Cmp}
-use Rattle.status_word.specs.declared.numbers.Cmp.TheVariants.{Eq, Ne, Gt, Lt, Ge, Le}
+use Rattle.instruction_set.specs.declared.operation.Cmp.{Cmp}
+use Rattle.instruction_set.specs.declared.operation.Cmp.TheVariants.{Eq, Ne, Gt, Lt, Ge, Le}
 use Rattle.status_word.specs.Status.{row}
 
 -- CC1 and CC0 are these, and OV is 0

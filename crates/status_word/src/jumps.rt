@@ -3,27 +3,7 @@ ghost use Rattle.std.specs.Prelude.{◌≡◌, ◌≤◌, Some, slice_get};
 ghost use Rattle.status_word.specs.JumpRows.{taken, after_jump_row, jumped, block_row, operands, is_zero, is_positive, is_negative, is_unordered};
 
 use crate::status::StatusWord;
-
-/// The jumps that the status word decides.
-#[derive(Clone, Copy, PartialEq, Eq, Debug)]
-pub enum Jump {
-    Ju,
-    Jc,
-    Jcn,
-    Jcb,
-    Jnb,
-    Jbi,
-    Jnbi,
-    Jo,
-    Jos,
-    Jz,
-    Jn,
-    Jp,
-    Jm,
-    Jpz,
-    Jmz,
-    Juo,
-}
+use instruction_set::Jump;
 
 impl StatusWord {
     /// A jump that depends on RLO or BR, and CC or BEC that is not taken. Where `to_br`, BR takes

@@ -5,9 +5,8 @@ mod jumps;
 mod numbers;
 mod status;
 
-pub use jumps::Jump;
-pub use numbers::Cmp;
-pub use status::{Check, StatusWord};
+pub use instruction_set::{Check, Cmp, Jump};
+pub use status::StatusWord;
 
 #[cfg(test)]
 mod tests;

@@ -3,17 +3,7 @@ ghost use Rattle.std.specs.Prelude.{◌≡◌, ◌≤◌};
 ghost use Rattle.status_word.specs.NumberRows.{arith_row, compared, logic_row, shift_row};
 
 use crate::status::StatusWord;
-
-/// The relation that a compare statement asks for: ==, <>, >, <, >=, <=.
-#[derive(Clone, Copy, PartialEq, Eq, Debug)]
-pub enum Cmp {
-    Eq,
-    Ne,
-    Gt,
-    Lt,
-    Ge,
-    Le,
-}
+use instruction_set::Cmp;
 
 impl StatusWord {
     /// A statement on numbers with the condition codes `cc`, that is 2 * CC1 + CC0. An overflow

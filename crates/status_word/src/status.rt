@@ -3,6 +3,8 @@ ghost use Rattle.std.specs.Prelude.{◌≡◌, ◌<◌, ◌%◌, true, false};
 ghost use Rattle.status_word.specs.Status.{is_set, bits_of, status_of, cleared_status, row};
 ghost use Rattle.status_word.specs.BitRows.{checked, and_result, or_result, xor_result, edged, edge_bit, or_row, write_row, not_row, set_row, clear_row, save_row, timer_row, bracket_row};
 
+use instruction_set::Check;
+
 /// The status word. A bit that is 1 is `true`.
 #[derive(Clone, Copy, PartialEq, Eq, Default, Debug)]
 pub struct StatusWord {
@@ -25,17 +27,6 @@ pub struct StatusWord {
     pub cc1: bool,
     /// Bit 8: the binary result.
     pub br: bool,
-}
-
-/// How a check combines its operand with the result so far: A, AN, O, ON, X, XN.
-#[derive(Clone, Copy, PartialEq, Eq, Debug)]
-pub enum Check {
-    And,
-    AndNot,
-    Or,
-    OrNot,
-    Xor,
-    XorNot,
 }
 
 /// Whether the bit at that place of a word is 1.

@@ -8,8 +8,7 @@ use Rattle.std.proofs.lemmas.Option.{slice_get-get_or}
 use Rattle.std.proofs.lemmas.List.Quantifiers.{position-Some}
 use Rattle.instruction_set.specs.declared.operands.OperandKind.{OperandKind}
 use Rattle.instruction_set.specs.declared.operands.OperandKind.TheVariants as kinds
-use Rattle.instruction_set.specs.declared.operation.Operation.TheVariants as groups
-use Rattle.instruction_set.specs.declared.operation.BitLogic.TheVariants as logic
+use Rattle.instruction_set.specs.declared.operation.Operation.TheVariants as operations
 use Rattle.instruction_set.specs.declared.table.InstructionRow.{InstructionRow}
 use Rattle.instruction_set.specs.InstructionSet.{instruction_set}
 use Rattle.s7_base.specs.declared.statement.Statement.{Statement}
@@ -54,7 +53,7 @@ alike kinds.FunctionBlockWithData locals op o = refl
 alike (kinds.SystemFunction number) locals op o = refl
 
 any_row : InstructionRow
-any_row = record { operation = groups.BitLogic logic.And; mnemonic = []; operand = kinds.Nothing }
+any_row = record { operation = operations.Close; mnemonic = []; operand = kinds.Nothing }
 
 abbrev suits_row : List ℕ → ℕ → Operand → InstructionRow → Bool
 suits_row mnemonic locals o row = bytes_eq row.mnemonic mnemonic && allows row.operand locals (stored 0 o)

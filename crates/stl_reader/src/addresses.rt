@@ -5,7 +5,7 @@ ghost use Rattle.stl_reader.specs.Addresses.{refused, part_number, part_sign, pa
 
 use crate::forms::{OperandForm, accepts};
 use crate::words::OperandWord;
-use s7_base::OperandArea;
+use instruction_set::OperandArea;
 use stl_decl::{Fault, FaultKind, end_fault, fault_at, is_sign, is_word, next, number_of, unfit};
 use stl_lex::{Token, TokenKind};
 

@@ -7,7 +7,7 @@ ghost use Rattle.stl_reader.specs.Constants.{is_plus_or_minus, is_figure_next, i
 use crate::addresses::{NO_NAME, Operand, refused, taken};
 use crate::forms::OperandForm;
 use crate::words::{StatusSign, status_sign};
-use s7_base::OperandArea;
+use instruction_set::OperandArea;
 use stl_decl::{
     Constant, ConstantForm, Fault, constant_of, end_fault, is_sign, next, spelling, value_at,
 };

@@ -2,7 +2,7 @@
 ghost use Rattle.std.specs.Prelude.{◌≡◌};
 ghost use Rattle.stl_reader.specs.Forms.{takes, takes_none, accepts, may_be_alone, takes_some, takes_operand};
 
-use s7_base::{OperandKind, instruction_set};
+use instruction_set::{OperandKind, instruction_set};
 
 /// How an operand is written.
 #[derive(Clone, Copy, Debug, PartialEq, Eq)]

@@ -7,7 +7,7 @@ ghost use Rattle.stl_reader.specs.Locals.{local_form, local_unit, local_at, suit
 use crate::addresses::{NO_NAME, Operand};
 use crate::forms::{OperandForm, accepts};
 use crate::operands::takes_memory;
-use s7_base::OperandArea;
+use instruction_set::OperandArea;
 use std::alloc::Global;
 use stl_decl::{
     Fault, FaultKind, Layout, SimpleType, StepError, Variable, element_at, element_bit, fault_at,

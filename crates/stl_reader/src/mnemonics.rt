@@ -4,7 +4,7 @@ ghost use Rattle.std.specs.Option.{option_map};
 ghost use Rattle.stl_decl.specs.Steps.{Gives, seen, spelling};
 ghost use Rattle.stl_reader.specs.Mnemonics.{row_named, refused_named, refusal_by, meaning_of, pair_at, one_at, run_at, meant, mnemonic_at};
 
-use s7_base::{InstructionRow, instruction_set};
+use instruction_set::{InstructionRow, instruction_set};
 use stl_decl::{Fault, FaultKind, end_fault, fault_at, next, spelling};
 use stl_lex::{Token, letters_of, spells};
 

@@ -11,7 +11,8 @@ use crate::addresses::{
 };
 use crate::forms::{OperandForm, accepts};
 use crate::words::{OperandWord, operand_word};
-use s7_base::{OperandArea, is_data_number};
+use instruction_set::OperandArea;
+use s7_base::is_data_number;
 use stl_decl::{Fault, FaultKind, end_fault, fault_at, is_word, next, spelling};
 use stl_lex::{Token, TokenKind, after, begins, value_of};
 

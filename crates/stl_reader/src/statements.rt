@@ -13,7 +13,8 @@ use crate::locals::local_operand;
 use crate::mnemonics::mnemonic_at;
 use crate::operands::{area_operand, data_number};
 use crate::words::{operand_word, status_sign};
-use s7_base::{OperandArea, Statement, instruction_set};
+use instruction_set::{OperandArea, instruction_set};
+use s7_base::Statement;
 use std::alloc::Global;
 use stl_decl::{
     Fault, FaultKind, Layout, StepError, end_fault, fault_at, is_sign, next, semicolon_at, spelling,

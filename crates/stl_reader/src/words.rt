@@ -3,7 +3,7 @@ ghost use Rattle.std.specs.Prelude.{◌≡◌};
 ghost use Rattle.stl_reader.specs.Words.{operand_word, status_sign};
 
 use crate::forms::OperandForm;
-use s7_base::OperandArea;
+use instruction_set::OperandArea;
 use stl_lex::{letters_of, spells};
 
 /// A word that an operand begins with, filled up with zeros: the form of the operand, and its area; the stored

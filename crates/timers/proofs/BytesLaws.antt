@@ -3,8 +3,8 @@ use Rattle.std.proofs.Common.{◌≡◌, ℕ, ◌+◌, ◌^◌, ◌<◌, ◌≤�
 use Rattle.std.proofs.lemmas.List.{take-append-drop, drop-drop, get_or-drop}
 use Rattle.std.specs.Int.{w16, w64, to_be_bytes, from_be_bytes}
 use Rattle.std.proofs.lemmas.Nat.{from_be_bytes-to_be_bytes_2, from_be_bytes-to_be_bytes_8, be_bytes_2, be_bytes_8}
-use Rattle.timers.specs.declared.kind.TimerKind.{TimerKind}
-use Rattle.timers.specs.declared.kind.TimerKind.TheVariants.{Sp, Se, Sd, Ss, Sf}
+use Rattle.instruction_set.specs.declared.operation.TimerKind.{TimerKind}
+use Rattle.instruction_set.specs.declared.operation.TimerKind.TheVariants.{Sp, Se, Sd, Ss, Sf}
 use Rattle.timers.specs.State.{TimerState}
 use Rattle.timers.specs.Bytes.{number_of, kind_of, flag, bytes_of, timer_of, IsTimer}
 

@@ -1,8 +1,8 @@
 -- The 24 bytes of a timer. Numbers have the high byte first.
 use Rattle.std.specs.Prelude.{◌≡◌, ℕ, ◌≤◌, List, [], ◌∷◌, ◌++◌, Bool, ◌==◌, if◌then◌else◌, zero, suc, slice_index, take, drop}
 use Rattle.std.specs.Int.{w16, w64, to_be_bytes, from_be_bytes}
-use Rattle.timers.specs.declared.kind.TimerKind.{TimerKind}
-use Rattle.timers.specs.declared.kind.TimerKind.TheVariants.{Sp, Se, Sd, Ss, Sf}
+use Rattle.instruction_set.specs.declared.operation.TimerKind.{TimerKind}
+use Rattle.instruction_set.specs.declared.operation.TimerKind.TheVariants.{Sp, Se, Sd, Ss, Sf}
 use Rattle.timers.specs.State.{TimerState}
 
 -- the number of a kind

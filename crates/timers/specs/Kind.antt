@@ -1,7 +1,7 @@
 -- The five kinds of timer: which change of the RLO starts them, and which RLO ends their run.
 use Rattle.std.specs.Prelude.{Bool, true, false, ◌&&◌, not}
-use Rattle.timers.specs.declared.kind.TimerKind.{TimerKind}
-use Rattle.timers.specs.declared.kind.TimerKind.TheVariants.{Sp, Se, Sd, Ss, Sf}
+use Rattle.instruction_set.specs.declared.operation.TimerKind.{TimerKind}
+use Rattle.instruction_set.specs.declared.operation.TimerKind.TheVariants.{Sp, Se, Sd, Ss, Sf}
 
 -- the RLO was 0 and is 1
 abbrev pub rises : Bool → Bool → Bool

@@ -1,8 +1,8 @@
 -- The rule of timers: output and rest are functions of the state and the moment, and no timer counts down.
 use Rattle.std.specs.Prelude.{ℕ, ◌-◌, ◌/◌, Bool, true, false, ◌&&◌, ◌||◌, not, nat_lt, if◌then◌else◌}
 use Rattle.s5_time.specs.Duration.{Duration, millis_of, unit_millis}
-use Rattle.timers.specs.declared.kind.TimerKind.{TimerKind}
-use Rattle.timers.specs.declared.kind.TimerKind.TheVariants.{Sp, Se, Sd, Ss, Sf}
+use Rattle.instruction_set.specs.declared.operation.TimerKind.{TimerKind}
+use Rattle.instruction_set.specs.declared.operation.TimerKind.TheVariants.{Sp, Se, Sd, Ss, Sf}
 use Rattle.timers.specs.Kind.{has_edge, ends_run, is_stored}
 use Rattle.timers.specs.State.{TimerState}
 

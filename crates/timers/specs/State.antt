@@ -1,8 +1,8 @@
 -- What a timer holds. It has no count of its own: it keeps the moment of its start.
 use Rattle.std.specs.Prelude.{ℕ, Bool, false}
 use Rattle.s5_time.specs.Duration.{Duration}
-use Rattle.timers.specs.declared.kind.TimerKind.{TimerKind}
-use Rattle.timers.specs.declared.kind.TimerKind.TheVariants.{Sp}
+use Rattle.instruction_set.specs.declared.operation.TimerKind.{TimerKind}
+use Rattle.instruction_set.specs.declared.operation.TimerKind.TheVariants.{Sp}
 
 -- the kind of the last start; whether it runs, since when and for how long; the RLO of the last start that FR
 -- has not made 0 (`mem`), the RLO of the last start that R has not made 0 (`input`), the RLO of the last FR

@@ -3,15 +3,7 @@ ghost use Rattle.std.specs.Prelude.{◌≡◌, ◌≤◌};
 ghost use Rattle.timers.specs.Bytes.{kind_of, number_of};
 ghost use Rattle.timers.specs.Kind.{ends_run, has_edge};
 
-/// The kind of a timer: pulse, extended pulse, on-delay, stored on-delay and off-delay.
-#[derive(Clone, Copy, Debug, PartialEq, Eq)]
-pub enum TimerKind {
-    Sp,
-    Se,
-    Sd,
-    Ss,
-    Sf,
-}
+use instruction_set::TimerKind;
 
 /// Whether the RLO, after `mem`, has the edge at which a kind starts.
 pub(crate) fn is_edge(kind: TimerKind, mem: bool, rlo: bool) -> bool

@@ -5,7 +5,7 @@
 mod kind;
 mod timer;
 
-pub use kind::TimerKind;
+pub use instruction_set::TimerKind;
 pub use timer::Timer;
 
 #[cfg(test)]

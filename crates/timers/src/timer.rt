@@ -4,7 +4,8 @@ ghost use Rattle.timers.specs.Bytes.{IsTimer, bytes_of, timer_of};
 ghost use Rattle.timers.specs.Rule.{enabled, going, output, reset, rest, started, starts, up};
 ghost use Rattle.timers.specs.State.{fresh};
 
-use crate::kind::{TimerKind, is_edge, is_run_over, number, numbered};
+use crate::kind::{is_edge, is_run_over, number, numbered};
+use instruction_set::TimerKind;
 use s5_time::{S5, millis};
 use std::marker::Model;
 

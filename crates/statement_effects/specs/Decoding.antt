@@ -1,0 +1,65 @@
+-- The operand of a stored statement. It is stored as an area, a bit or a unit, and an address, a number or a constant.
+use Rattle.std.specs.Prelude.{ℕ, ◌+◌, ◌==◌, nat_lt, nat_le, Option, Some, None, if◌then◌else◌}
+use Rattle.s7_base.specs.declared.statement.Statement.{Statement}
+use Rattle.instruction_set.specs.declared.operands.OperandArea.TheVariants as areas
+use Rattle.s7_base.specs.Operands.{is_in}
+use Rattle.s7_events.specs.Optional.{◌>>=◌}
+use Rattle.statement_effects.specs.declared.instruction.ByteArea.{ByteArea}
+use Rattle.statement_effects.specs.declared.instruction.ByteArea.TheVariants.{I, Q, M}
+use Rattle.statement_effects.specs.declared.instruction.Width.{Width}
+use Rattle.statement_effects.specs.declared.instruction.Width.TheVariants as widths
+use Rattle.statement_effects.specs.declared.instruction.BitOperand.TheVariants as bits
+use Rattle.statement_effects.specs.declared.instruction.ValueOperand.TheVariants as values
+use Rattle.statement_effects.specs.declared.instruction.Operand.{Operand}
+use Rattle.statement_effects.specs.declared.instruction.Operand.TheVariants as operands
+use Rattle.statement_effects.specs.Areas.{size_of, bytes_in}
+
+-- the width of a stored unit: 8 is a byte, 9 a word, 10 a double word
+abbrev pub width_of : ℕ → Option Width
+width_of unit =
+    if unit == 8 then Some widths.Byte
+    else if unit == 9 then Some widths.Word
+    else if unit == 10 then Some widths.Double
+    else None
+
+-- a bit of an area, in the area
+abbrev pub bit_operand : ByteArea → Statement → Option Operand
+bit_operand area s =
+    if nat_lt s.value (size_of area)
+    then Some (operands.Bit (bits.Area (record { area = area; at_byte = s.value; bit = s.bit })))
+    else None
+
+-- a value of an area, in the area
+abbrev pub value_operand : ByteArea → Statement → Option Operand
+value_operand area s = do
+  width ← width_of s.bit
+  if nat_le (s.value + bytes_in width) (size_of area) then Some (operands.Value (values.Area (record { area = area; at_byte = s.value; width = width }))) else None
+
+-- bits are 0 to 7, units are above them
+abbrev pub byte_operand : ByteArea → Statement → Option Operand
+byte_operand area s = if nat_le s.bit 7 then bit_operand area s else value_operand area s
+
+-- a number or a constant, at most this
+abbrev pub up_to : ℕ → (ℕ → Operand) → Statement → Option Operand
+up_to most operand s = if nat_le s.value most then Some (operand s.value) else None
+
+-- an operand that is none of the areas of bytes
+abbrev pub other_operand : Statement → Option Operand
+other_operand s =
+    if is_in areas.Nothing s then Some operands.Nothing
+    else if is_in areas.Timer s then up_to 255 operands.Timer s
+    else if is_in areas.Counter s then up_to 255 operands.Counter s
+    else if is_in areas.Word s then up_to 65535 operands.Word s
+    else if is_in areas.DoubleWord s then Some (operands.DoubleWord s.value)
+    else if is_in areas.Target s then Some (operands.Target s.value)
+    else if is_in areas.Status s then up_to 9 operands.Status s
+    else if is_in areas.StatusWord s then Some operands.StatusWord
+    else None
+
+-- the operand, if it is one that is supported
+abbrev pub operand_of : Statement → Option Operand
+operand_of s =
+    if is_in areas.Inputs s then byte_operand I s
+    else if is_in areas.Outputs s then byte_operand Q s
+    else if is_in areas.Memory s then byte_operand M s
+    else other_operand s

@@ -1,0 +1,14 @@
+-- What the statements see.
+use Rattle.std.specs.Prelude.{ℕ, List}
+use Rattle.timers.specs.State.{TimerState}
+use Rattle.counters.specs.State.{CounterState}
+use Rattle.statement_effects.specs.declared.areas.Registers.{Registers}
+
+-- the areas and the registers: the bytes of the inputs, the outputs and the bit memory, the timers, the counters, and the registers
+pub record Memory : Type 0 where
+  pub inputs : List ℕ
+  pub outputs : List ℕ
+  pub flags : List ℕ
+  pub timers : List TimerState
+  pub counters : List CounterState
+  pub registers : Registers

@@ -1,0 +1,173 @@
+//! The operands of stored statements.
+ghost use Rattle.std.specs.Prelude.{◌≡◌, ◌≤◌, IfSome};
+ghost use Rattle.s7_base.specs.Operands.{is_in};
+ghost use Rattle.statement_effects.specs.Areas.{size_of, bytes_in};
+ghost use Rattle.statement_effects.specs.Decoding.{width_of, bit_operand, value_operand, byte_operand, up_to, other_operand, operand_of};
+ghost use Rattle.statement_effects.specs.Placed.{IsOperand};
+ghost use Rattle.statement_effects.specs.declared.instruction.Operand.TheVariants as operands;
+
+use crate::instruction::{
+    BitOperand, BitPlace, ByteArea, Operand, ValueOperand, ValuePlace, Width,
+};
+use instruction_set::OperandArea;
+use s7_base::Statement;
+
+impl ByteArea {
+    /// How many bytes it has.
+    fn size(self) -> u16
+        ensures { result ≡ size_of self }
+    {
+        match self {
+            ByteArea::I | ByteArea::Q => 64,
+            ByteArea::M => 1024,
+        }
+    }
+}
+
+impl Width {
+    /// How many bytes a value has.
+    fn bytes(self) -> u16
+        ensures { result ≡ bytes_in self }
+    {
+        match self {
+            Width::Byte => 1,
+            Width::Word => 2,
+            Width::Double => 4,
+        }
+    }
+}
+
+fn is_in(s: &Statement, area: OperandArea) -> bool
+    ensures { result ≡ is_in area s.now }
+{
+    s.area == area.number()
+}
+
+fn width_of(unit: u8) -> Option<Width>
+    ensures { result ≡ width_of unit }
+{
+    match unit {
+        8 => Some(Width::Byte),
+        9 => Some(Width::Word),
+        10 => Some(Width::Double),
+        _ => None,
+    }
+}
+
+fn bit_operand(area: ByteArea, s: &Statement) -> Option<Operand>
+    requires { s.now.bit ≤ 7 }
+    ensures operand { result ≡ bit_operand area s.now }
+    ensures placed { IfSome result IsOperand }
+{
+    if s.value >= u32::from(area.size()) {
+        return None;
+    }
+    Some(Operand::Bit(BitOperand::Area(BitPlace {
+        area,
+        at_byte: s.value as u16,
+        bit: s.bit,
+    })))
+}
+
+fn value_operand(area: ByteArea, s: &Statement) -> Option<Operand>
+    ensures operand { result ≡ value_operand area s.now }
+    ensures placed { IfSome result IsOperand }
+{
+    let width = width_of(s.bit)?;
+    if u64::from(s.value) + u64::from(width.bytes()) > u64::from(area.size()) {
+        return None;
+    }
+    Some(Operand::Value(ValueOperand::Area(ValuePlace {
+        area,
+        at_byte: s.value as u16,
+        width,
+    })))
+}
+
+/// A bit or a value of an area of bytes.
+fn byte_operand(area: ByteArea, s: &Statement) -> Option<Operand>
+    ensures operand { result ≡ byte_operand area s.now }
+    ensures placed { IfSome result IsOperand }
+{
+    if s.bit <= 7 {
+        bit_operand(area, s)
+    } else {
+        value_operand(area, s)
+    }
+}
+
+fn timer_operand(s: &Statement) -> Option<Operand>
+    ensures operand { result ≡ up_to 255 operands.Timer s.now }
+    ensures placed { IfSome result IsOperand }
+{
+    let number = u8::try_from(s.value).ok()?;
+    Some(Operand::Timer(number))
+}
+
+fn counter_operand(s: &Statement) -> Option<Operand>
+    ensures operand { result ≡ up_to 255 operands.Counter s.now }
+    ensures placed { IfSome result IsOperand }
+{
+    let number = u8::try_from(s.value).ok()?;
+    Some(Operand::Counter(number))
+}
+
+fn word_operand(s: &Statement) -> Option<Operand>
+    ensures operand { result ≡ up_to 65535 operands.Word s.now }
+    ensures placed { IfSome result IsOperand }
+{
+    let word = u16::try_from(s.value).ok()?;
+    Some(Operand::Word(word))
+}
+
+fn status_operand(s: &Statement) -> Option<Operand>
+    ensures operand { result ≡ up_to 9 operands.Status s.now }
+    ensures placed { IfSome result IsOperand }
+{
+    if s.value > 9 {
+        return None;
+    }
+    Some(Operand::Status(s.value as u8))
+}
+
+/// An operand that is none of the areas of bytes.
+fn other_operand(s: &Statement) -> Option<Operand>
+    ensures operand { result ≡ other_operand s.now }
+    ensures placed { IfSome result IsOperand }
+{
+    if is_in(s, OperandArea::Nothing) {
+        Some(Operand::Nothing)
+    } else if is_in(s, OperandArea::Timer) {
+        timer_operand(s)
+    } else if is_in(s, OperandArea::Counter) {
+        counter_operand(s)
+    } else if is_in(s, OperandArea::Word) {
+        word_operand(s)
+    } else if is_in(s, OperandArea::DoubleWord) {
+        Some(Operand::DoubleWord(s.value))
+    } else if is_in(s, OperandArea::Target) {
+        Some(Operand::Target(s.value))
+    } else if is_in(s, OperandArea::Status) {
+        status_operand(s)
+    } else if is_in(s, OperandArea::StatusWord) {
+        Some(Operand::StatusWord)
+    } else {
+        None
+    }
+}
+
+/// The operand of a statement, if it is one that is supported.
+pub(crate) fn operand_of(s: &Statement) -> Option<Operand>
+    ensures operand { result ≡ operand_of s.now }
+    ensures placed { IfSome result IsOperand }
+{
+    if is_in(s, OperandArea::Inputs) {
+        byte_operand(ByteArea::I, s)
+    } else if is_in(s, OperandArea::Outputs) {
+        byte_operand(ByteArea::Q, s)
+    } else if is_in(s, OperandArea::Memory) {
+        byte_operand(ByteArea::M, s)
+    } else {
+        other_operand(s)
+    }
+}
