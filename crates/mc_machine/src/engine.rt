@@ -624,6 +624,9 @@ impl Engine {
         let Some(frame) = self.frames.pop() else {
             unreachable!()
         };
+        let mut registers = self.memory.registers();
+        registers.status.after_block();
+        self.memory.set_registers(registers);
         self.spot = frame.spot;
         self.memory.set_registers(frame.kept);
     }

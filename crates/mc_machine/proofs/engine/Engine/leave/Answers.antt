@@ -1,12 +1,12 @@
 -- The frames that are left are as high as they were.
-use Rattle.std.proofs.Common.{refl}
+use Rattle.std.proofs.Common.{refl, rules}
 use Rattle.mc_machine.specs.EngineView.{frame_of, config_of}
 use Rattle.mc_machine.proofs.Sound.{pop_sound}
 use Rattle.mc_machine.proofs.Stored.{frames_push, indexed_pop}
 use Rattle.mc_machine.proofs.engine.Engine.leave.Goals as goal
 
 pub returns-clause-left : goal.returns-clause-left
-returns-clause-left c = (refl, frame_of c.in-Some.frame, frames_push _ _ c.in-Some.frame c.in-Some.ensures.items, refl)
+returns-clause-left c = (refl, frame_of c.in-Some.frame, frames_push _ _ c.in-Some.frame c.in-Some.ensures.items, search rules)
 
 pub returns-clause-sound : goal.returns-clause-sound
 returns-clause-sound c =
