@@ -1,5 +1,5 @@
 -- The lanes of a chart: when a bit changes, and what each side is.
-use Rattle.std.specs.Prelude.{ℕ, ◌+◌, ◌/◌, ◌%◌, ◌^◌, ◌==◌, Bool, not, false, List, [], ◌∷◌, Option, Some, None, slice_index_or, unwrap_or, if◌then◌else◌}
+use Rattle.std.specs.Prelude.{ℕ, ◌+◌, ◌/◌, ◌%◌, ◌^◌, ◌==◌, ◌≡◌, Bool, not, false, List, [], ◌∷◌, Option, Some, None, slice_index_or, unwrap_or, if◌then◌else◌}
 use Rattle.trace_reader.specs.declared.trace.Entry.{Entry}
 use Rattle.trace_reader.specs.declared.trace.Request.{Request}
 use Rattle.trace_reader.specs.declared.trace.Request.TheVariants as asks
@@ -9,6 +9,7 @@ use Rattle.trace_chart.specs.declared.lanes.Area.{Area}
 use Rattle.trace_chart.specs.declared.lanes.Area.TheVariants.{Input, Output}
 use Rattle.trace_chart.specs.declared.lanes.Signal.{Signal}
 use Rattle.trace_chart.specs.declared.lanes.Change.{Change}
+use Rattle.trace_chart.specs.declared.lanes.Lane.{Lane}
 
 -- a bit of an image: 0 where the image has no such byte
 abbrev pub bit_of : List ℕ → ℕ → ℕ → Bool
@@ -66,3 +67,7 @@ changes_from signal k value (entry ∷ entries) =
 -- all changes of a signal, in order. It is 0 at first
 abbrev pub changes_of : Signal → List Entry → List Change
 changes_of signal entries = changes_from signal 0 false entries
+
+-- a lane has all changes of its signal, in order
+abbrev pub IsLaneOf : List Entry → Lane → Type 0
+IsLaneOf entries lane = lane.changes.items ≡ changes_of lane.signal entries

@@ -1,1 +1,3 @@
 pub mod Lanes
+pub mod Sides
+pub mod Chart

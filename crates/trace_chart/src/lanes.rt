@@ -1,6 +1,6 @@
 //! The lanes of a chart: the signals and their changes.
-ghost use Rattle.std.specs.Prelude.{◌≡◌, ◌<◌, IfOk};
-ghost use Rattle.trace_chart.specs.Lanes.{bit_of, input_said, output_said, said, value_after, differs, changes_of};
+ghost use Rattle.std.specs.Prelude.{◌≡◌, ◌<◌, All, IfOk};
+ghost use Rattle.trace_chart.specs.Lanes.{bit_of, input_said, output_said, said, value_after, differs, changes_of, IsLaneOf};
 
 use std::alloc::{AllocError, Global};
 use trace_reader::{Answer, Entry, Request};
@@ -25,6 +25,13 @@ pub struct Signal {
 pub struct Change {
     pub moment: usize,
     pub value: bool,
+}
+
+/// A signal and its changes.
+#[derive(Debug, Drop)]
+pub struct Lane {
+    pub signal: Signal,
+    pub changes: Vec<Change>,
 }
 
 /// Returns a bit of an image, and 0 where the image has no such byte.
@@ -106,4 +113,36 @@ pub fn changes(alloc: Global, signal: Signal, entries: &[Entry]) -> Result<Vec<C
         value = now;
     }
     Ok(changes)
+}
+
+/// Returns the signal of a number below 1,024: first the inputs, then the outputs, each by byte and bit.
+fn signal_at(number: usize) -> Signal
+    ensures { result.bit < 8 }
+{
+    let area = if number < 512 {
+        Area::Input
+    } else {
+        Area::Output
+    };
+    Signal {
+        area,
+        byte: number / 8 % 64,
+        bit: (number % 8) as u8,
+    }
+}
+
+/// Returns the lanes of the signals that change: the inputs, then the outputs, by byte and bit.
+pub fn lanes_of(alloc: Global, entries: &[Entry]) -> Result<Vec<Lane>, AllocError>
+    ensures { IfOk result (λ lanes. All (IsLaneOf entries.now) lanes.items) }
+{
+    let mut lanes = Vec::new(alloc);
+    for number in 0..1024usize {
+        let signal = signal_at(number);
+        let changes = changes(alloc, signal, entries)?;
+        if changes.is_empty() {
+            continue;
+        }
+        lanes.push(Lane { signal, changes })?;
+    }
+    Ok(lanes)
 }

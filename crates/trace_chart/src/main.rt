@@ -1,24 +1,30 @@
-//! Draws a trace: `trace_chart --vcd TRACE` writes its signals as a Value Change Dump.
+//! Draws a trace: `trace_chart TRACE` as an SVG timeline, `trace_chart --vcd TRACE` as a Value Change Dump.
 #![tactic(auto)]
-
-ghost use Rattle.std.specs.Prelude.{◌<◌};
 
 mod lanes;
 mod page;
+mod sides;
+mod svg;
 mod vcd;
 
-use crate::lanes::{Area, Signal, changes};
+use crate::lanes::lanes_of;
 use crate::page::Page;
-use crate::vcd::{Lane, draw};
 use pair_io::{Files, RealFiles, RealSink, Sink, StdOpener};
 use std::alloc::{AllocError, Global};
 use std::process::ExitCode;
 use std::rt::Env;
 use std::{env, io};
-use trace_reader::{Entry, Trace, TraceFault, read};
+use trace_reader::{Trace, TraceFault, read};
 
 /// The greatest length of a trace, in bytes.
 const MOST_BYTES: u64 = 1_073_741_824;
+
+/// What is written of a trace.
+#[derive(Clone, Copy, Debug)]
+enum Format {
+    Svg,
+    Vcd,
+}
 
 /// Why nothing was written, and the exit status that says so.
 #[derive(Clone, Copy, Debug)]
@@ -50,12 +56,13 @@ fn arguments(
     Ok(words)
 }
 
-/// Returns the name of the trace.
-fn name_of(words: &[Vec<u8>]) -> Option<&[u8]> {
+/// Returns the format and the name of the trace.
+fn command_of(words: &[Vec<u8>]) -> Option<(Format, &[u8])> {
     match words {
+        [name] => Some((Format::Svg, name.as_slice())),
         [option, name] => {
             if option.as_slice() == b"--vcd".as_slice() {
-                Some(name.as_slice())
+                Some((Format::Vcd, name.as_slice()))
             } else {
                 None
             }
@@ -64,55 +71,15 @@ fn name_of(words: &[Vec<u8>]) -> Option<&[u8]> {
     }
 }
 
-/// Adds the lane of a signal, where it changes.
-fn add_signal(
-    alloc: Global,
-    lanes: &mut Vec<Lane>,
-    signal: Signal,
-    entries: &[Entry],
-) -> Result<(), AllocError>
-    requires { signal.bit < 8 }
-{
-    let changes = changes(alloc, signal, entries)?;
-    if changes.is_empty() {
-        return Ok(());
-    }
-    lanes.push(Lane { signal, changes })?;
-    Ok(())
-}
-
-/// Adds the lanes of the signals of an area that change, by byte and bit.
-fn add_area(
-    alloc: Global,
-    lanes: &mut Vec<Lane>,
-    area: Area,
-    entries: &[Entry],
-) -> Result<(), AllocError> {
-    for number in 0..512usize {
-        let signal = Signal {
-            area,
-            byte: number / 8,
-            bit: (number % 8) as u8,
-        };
-        add_signal(alloc, lanes, signal, entries)?;
-    }
-    Ok(())
-}
-
-/// Returns the lanes of all signals that change.
-fn lanes_of(alloc: Global, entries: &[Entry]) -> Result<Vec<Lane>, AllocError> {
-    let mut lanes = Vec::new(alloc);
-    add_area(alloc, &mut lanes, Area::Input, entries)?;
-    add_area(alloc, &mut lanes, Area::Output, entries)?;
-    Ok(lanes)
-}
-
-/// Returns the dump of a trace.
-fn dump_of(alloc: Global, trace: &Trace) -> Result<Page, AllocError> {
+/// Returns the text of a trace in a format.
+fn drawn(alloc: Global, format: Format, trace: &Trace) -> Result<Page, AllocError> {
     let mut page = Page::new(alloc);
     let entries = trace.entries.as_slice();
     let lanes = lanes_of(alloc, entries)?;
-    draw(&mut page, lanes.as_slice(), entries.len())?;
+    match format {
+        Format::Svg => svg::draw(alloc, &mut page, trace, lanes.as_slice())?,
+        Format::Vcd => vcd::draw(&mut page, lanes.as_slice(), entries.len())?,
+    }
     Ok(page)
 }
 
@@ -136,11 +103,11 @@ fn chart<F: Files, K: Sink>(
     files: &mut F,
     sink: &mut K,
 ) -> Result<(), Fault> {
-    let Some(name) = name_of(words) else {
+    let Some((format, name)) = command_of(words) else {
         return Err(Fault::Usage);
     };
     let trace = trace_of(alloc, files, name)?;
-    let Ok(page) = dump_of(alloc, &trace) else {
+    let Ok(page) = drawn(alloc, format, &trace) else {
         return Err(Fault::NoMemory);
     };
     if sink.write(page.as_slice()).is_err() {
@@ -152,7 +119,7 @@ fn chart<F: Files, K: Sink>(
 /// Writes why nothing was written, and returns the exit status.
 fn report<R: Eprint + Alloc<A = Global>>(rt: &R, fault: Fault) -> u8 {
     let written = match fault {
-        Fault::Usage => eprintln!(rt; "usage: trace_chart --vcd TRACE"),
+        Fault::Usage => eprintln!(rt; "usage: trace_chart [--vcd] TRACE"),
         Fault::File => eprintln!(rt; "trace_chart: file fault"),
         Fault::Line(line) => eprintln!(rt; "trace_chart: trace fault line {line}"),
         Fault::Sink => eprintln!(rt; "trace_chart: sink fault"),

@@ -1,15 +1,8 @@
 //! The changes of a trace as a Value Change Dump.
 
-use crate::lanes::{Area, Change, Signal};
+use crate::lanes::{Area, Change, Lane, Signal};
 use crate::page::Page;
 use std::alloc::AllocError;
-
-/// A signal and its changes.
-#[derive(Debug, Drop)]
-pub struct Lane {
-    pub signal: Signal,
-    pub changes: Vec<Change>,
-}
 
 /// Adds the name of a signal, as `I0.0`.
 pub fn add_name(page: &mut Page, signal: Signal) -> Result<(), AllocError> {
