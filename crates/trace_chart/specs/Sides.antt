@@ -1,5 +1,5 @@
 -- What each side of a trace is, moment by moment, and when it shows an output.
-use Rattle.std.specs.Prelude.{ℕ, ◌+◌, Bool, true, false, not, List, [], ◌∷◌, if◌then◌else◌}
+use Rattle.std.specs.Prelude.{ℕ, ◌+◌, Bool, true, false, List, [], ◌∷◌, if◌then◌else◌}
 use Rattle.trace_reader.specs.declared.trace.Entry.{Entry}
 use Rattle.trace_reader.specs.declared.trace.Mode.{Mode}
 use Rattle.trace_reader.specs.declared.trace.Mode.TheVariants.{Solo, Pair}

@@ -221,12 +221,7 @@ fn add_bars(
 }
 
 /// Adds a tick above the bar of a side at each of these moments.
-fn add_ticks(
-    page: &mut Page,
-    scale: Scale,
-    moments: &[usize],
-    top: u64,
-) -> Result<(), AllocError> {
+fn add_ticks(page: &mut Page, scale: Scale, moments: &[usize], top: u64) -> Result<(), AllocError> {
     for moment in moments {
         let x = scale.x(*moment as u64);
         add_upright(page, x, top, top.saturating_add(6), b"edge")?;
