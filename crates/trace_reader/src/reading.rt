@@ -163,8 +163,8 @@ fn line_of(text: &[u8], left: usize) -> usize
 }
 
 /// Reads the text of a trace, as docs/trace.md describes it. What it returns is written by the same bytes. The fault of a
-/// text that is no trace names its first line that has no form or may not stand there, counted from 1; where the text
-/// ends too early, that is the line after the last.
+/// text that is no trace names a line of the text, counted from 1, or the line after its last; NoMemory says nothing of
+/// the text.
 pub fn read(alloc: Global, text: &[u8]) -> Result<Trace, TraceFault>
     ensures written { IfOk result (λ trace. text_of trace ≡ text.now) }
     ensures line { IfErr result (λ fault. IsLineOf text.now fault) }
