@@ -7,8 +7,7 @@ use Rattle.std.proofs.lemmas.Slice.Eq.{bytes_eq-Decides}
 use Rattle.std.proofs.lemmas.Option.{slice_get-get_or}
 use Rattle.std.proofs.lemmas.List.Quantifiers.{position-Some}
 use Rattle.instruction_set.specs.declared.operands.OperandKind.TheVariants as operand_kinds
-use Rattle.instruction_set.specs.declared.operation.Operation.TheVariants as groups
-use Rattle.instruction_set.specs.declared.operation.BitLogic.TheVariants as logic
+use Rattle.instruction_set.specs.declared.operation.Operation.TheVariants as operations
 use Rattle.instruction_set.specs.declared.table.InstructionRow.{InstructionRow}
 use Rattle.s7_base.specs.declared.statement.Statement.{Statement}
 use Rattle.instruction_set.specs.InstructionSet.{instruction_set}
@@ -75,7 +74,7 @@ module _ (text : List ℕ) where
           meant_takes t (Some meaning) (t ∷ u ∷ []) u (t ∷ u ∷ ts) ts x refl (λ m h. in_two t u near (meaning_spells (spelling text (record t { to = u.to })) m (is ∙ h))) e
 
 any_row : InstructionRow
-any_row = record { operation = groups.BitLogic logic.And; mnemonic = []; operand = operand_kinds.Nothing }
+any_row = record { operation = operations.Close; mnemonic = []; operand = operand_kinds.Nothing }
 
 -- the row of the operation that was found
 record HasRow (mnemonic : List ℕ) (n : ℕ) : Type 0 where
