@@ -48,11 +48,11 @@ both_not false false false e = refl
 both_not k true b e = absurd cc
 both_not k false true e = absurd cc
 
-sign_is : (k : TokenKind) → is_sign_kind k ≡ true → k ≡ kinds.Sign
+pub sign_is : (k : TokenKind) → is_sign_kind k ≡ true → k ≡ kinds.Sign
 sign_is kinds.Sign h = refl
 sign_is _ h = absurd cc
 
-sign_kind_again : (kind : TokenKind) (text : List ℕ) (temps : Section) (mnemonic : List ℕ) (s : Token) (rest tokens : List Token) (r : Operand × Token × List Token) → kind ≡ kinds.Sign → sign_by (status_sign (spelling text s)) text mnemonic s rest tokens ≡ Ok r → kind_operand kind text temps mnemonic s rest tokens ≡ Ok r
+pub sign_kind_again : (kind : TokenKind) (text : List ℕ) (temps : Section) (mnemonic : List ℕ) (s : Token) (rest tokens : List Token) (r : Operand × Token × List Token) → kind ≡ kinds.Sign → sign_by (status_sign (spelling text s)) text mnemonic s rest tokens ≡ Ok r → kind_operand kind text temps mnemonic s rest tokens ≡ Ok r
 sign_kind_again kinds.Sign text temps mnemonic s rest tokens r is e = e
 sign_kind_again _ text temps mnemonic s rest tokens r is e = absurd cc
 

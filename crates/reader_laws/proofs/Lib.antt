@@ -10,3 +10,9 @@ pub mod Tables
 pub mod Again
 pub mod Calls
 pub mod Compared
+pub mod Forms
+pub mod Opened
+pub mod Figures
+pub mod Behind
+pub mod Named
+pub mod Read
