@@ -1,5 +1,5 @@
 -- What is spelled behind a mnemonic that takes its form is read: the table has no mnemonic that would read it otherwise.
-use Rattle.std.proofs.Common.{◌≡◌, ℕ, List, refl, ap, sym, ◌∙◌, true, false}
+use Rattle.std.proofs.Common.{◌≡◌, ℕ, List, ap, sym, ◌∙◌, true, false}
 use Rattle.stl_reader.specs.declared.forms.OperandForm.TheVariants as forms
 use Rattle.stl_reader.specs.declared.words.OperandWord.{OperandWord}
 use Rattle.stl_reader.specs.Forms.{accepts}

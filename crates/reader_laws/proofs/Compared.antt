@@ -32,7 +32,7 @@ sign_key row = letters_of row.sign
 signs_apart : are_apart (map sign_key status_signs) ≡ true
 signs_apart = refl
 
-status_again : (sign : List ℕ) (row : StatusSign) → IsOneOf row status_signs → sign ≡ letters_of row.sign → status_sign sign ≡ Some row
+pub status_again : (sign : List ℕ) (row : StatusSign) → IsOneOf row status_signs → sign ≡ letters_of row.sign → status_sign sign ≡ Some row
 unfolding status_sign
 status_again sign row h e = find_key sign_key sign status_signs row signs_apart h ((bytes_eq-Decides (letters_of row.sign) sign).1 (sym e))
 

@@ -1,5 +1,5 @@
 -- Numbers that are spelled so are read.
-use Rattle.std.proofs.Common.{◌≡◌, ℕ, List, [], ◌∷◌, ◌++◌, refl, ap, sym, ◌∙◌, Bool, true, false, ◌&&◌, ◌||◌}
+use Rattle.std.proofs.Common.{◌≡◌, ℕ, List, [], ◌∷◌, ◌++◌, refl, ap, ◌∙◌, Bool, true, false, ◌&&◌, ◌||◌}
 use Rattle.std.specs.Prelude.{Ok, None, codes}
 use Rattle.std.specs.Str.{bytes_eq}
 use Rattle.std.proofs.lemmas.Bool.{and_parts, and_right, or_parts, or_left, or_right}
@@ -8,7 +8,6 @@ use Rattle.instruction_set.specs.declared.operands.OperandArea.TheVariants as ar
 use Rattle.stl_lex.specs.declared.piece.TokenKind.{TokenKind}
 use Rattle.stl_lex.specs.declared.piece.TokenKind.TheVariants as kinds
 use Rattle.stl_lex.specs.declared.token.Token.{Token}
-use Rattle.stl_decl.specs.declared.steps.SignedNumber.{SignedNumber}
 use Rattle.stl_decl.specs.Layout.{Section}
 use Rattle.stl_decl.specs.Steps.{spelling, is_number_kind, is_sign_kind, is_sign, number_of, signed_at, integer_at}
 use Rattle.stl_decl.specs.Constants.{stored, begins_integer, integer_value_at}
@@ -16,7 +15,7 @@ use Rattle.stl_reader.specs.declared.forms.OperandForm.TheVariants as forms
 use Rattle.stl_reader.specs.declared.addresses.Operand.{Operand}
 use Rattle.stl_reader.specs.Forms.{accepts}
 use Rattle.stl_reader.specs.Words.{status_sign}
-use Rattle.stl_reader.specs.Constants.{is_plus_or_minus, is_fraction, is_real, number_operand, unsigned_operand, signed_operand, sign_by}
+use Rattle.stl_reader.specs.Constants.{is_plus_or_minus, is_fraction, is_real, number_operand, unsigned_operand, signed_operand}
 use Rattle.stl_reader.specs.Statements.{kind_operand, operand_at}
 use Rattle.reader_laws.specs.Tokens.{IsSign}
 use Rattle.reader_laws.specs.Operands.{IsInteger, unsigned, positive, negative, is_in_range, number_form, operand, last_of}
@@ -24,7 +23,7 @@ use Rattle.reader_laws.specs.Spelled.{goes_on}
 use Rattle.reader_laws.proofs.Again.{number_no_sign}
 use Rattle.reader_laws.proofs.Compared.{sign_is, sign_kind_again}
 
-number_is : (k : TokenKind) → is_number_kind k ≡ true → k ≡ kinds.Number
+pub number_is : (k : TokenKind) → is_number_kind k ≡ true → k ≡ kinds.Number
 number_is kinds.Number h = refl
 number_is _ h = absurd cc
 

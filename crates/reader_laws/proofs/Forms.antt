@@ -3,7 +3,7 @@ use Rattle.std.proofs.Common.{◌≡◌, ℕ, List, [], ◌∷◌, refl, ap, sym
 use Rattle.std.specs.Prelude.{not}
 use Rattle.std.specs.List.{list_all, list_any}
 use Rattle.std.specs.Str.{bytes_eq}
-use Rattle.std.proofs.lemmas.Bool.{and_parts, and_from, or_right, false_from_ne_true}
+use Rattle.std.proofs.lemmas.Bool.{and_parts, or_right, false_from_ne_true}
 use Rattle.std.proofs.lemmas.Slice.Eq.{bytes_eq-Decides}
 use Rattle.instruction_set.specs.declared.operands.OperandKind.{OperandKind}
 use Rattle.instruction_set.specs.declared.operands.OperandKind.TheVariants as kinds
@@ -50,7 +50,7 @@ row_taking mnemonic form e =
     record { row = h.one; listed = h.listed; same = (bytes_eq-Decides h.one.mnemonic mnemonic).0 parts.0; takes = parts.1 }
 
 -- kinds of rows with one mnemonic: a jump's is alone, and no FB is called both alone and with a data block
-parted : OperandKind → OperandKind → Bool
+unfoldable pub parted : OperandKind → OperandKind → Bool
 parted kinds.Target kinds.Target = true
 parted kinds.Target _ = false
 parted kinds.FunctionBlock kinds.FunctionBlockWithData = false
@@ -66,18 +66,18 @@ all_parted : list_all parted_from instruction_set ≡ true
 unfolding parted_from pair_parted parted
 all_parted = refl
 
-right_of : (a b : Bool) → a ≡ true → (not a || b) ≡ true → b ≡ true
+pub right_of : (a b : Bool) → a ≡ true → (not a || b) ≡ true → b ≡ true
 right_of true b is e = e
 right_of false b is e = absurd cc
 
-kinds_parted : (a b : InstructionRow) → IsOneOf a instruction_set → IsOneOf b instruction_set → a.mnemonic ≡ b.mnemonic → parted a.operand b.operand ≡ true
+pub kinds_parted : (a b : InstructionRow) → IsOneOf a instruction_set → IsOneOf b instruction_set → a.mnemonic ≡ b.mnemonic → parted a.operand b.operand ≡ true
 unfolding parted_from pair_parted
 kinds_parted a b ha hb same =
     let all = each parted_from instruction_set a all_parted ha in
     let pair = each (pair_parted a) instruction_set b all hb in
     right_of (bytes_eq a.mnemonic b.mnemonic) (parted a.operand b.operand) ((bytes_eq-Decides a.mnemonic b.mnemonic).1 same) pair
 
-neither : (b : Bool) → cond b false false ≡ true → ⊥
+pub neither : (b : Bool) → cond b false false ≡ true → ⊥
 neither true e = cc
 neither false e = cc
 

@@ -16,3 +16,6 @@ pub mod Figures
 pub mod Behind
 pub mod Named
 pub mod Read
+pub mod Mnemonics
+pub mod Begins
+pub mod Whole

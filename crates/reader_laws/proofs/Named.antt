@@ -1,7 +1,7 @@
 -- Names of the local data that are spelled so are read.
-use Rattle.std.proofs.Common.{◌≡◌, ◌≤◌, ◌<◌, ◌-◌, ◌+◌, ◌*◌, ◌/◌, ◌%◌, ℕ, List, [], ◌∷◌, ◌++◌, refl, ap, sym, ◌∙◌, Bool, true, false, inl, inr, arith, append_assoc}
-use Rattle.std.specs.Prelude.{Ok, Some, None, min, ◌||◌, not, nat_lt, nat_le, codes, drop}
-use Rattle.std.proofs.lemmas.Bool.{or_parts, or_from, le-ltb, lt-leb}
+use Rattle.std.proofs.Common.{◌≡◌, ◌≤◌, ◌<◌, ◌-◌, ◌+◌, ◌*◌, ◌/◌, ◌%◌, ℕ, List, [], ◌∷◌, ◌++◌, refl, ◌∙◌, Bool, true, false, inl, inr, arith, append_assoc}
+use Rattle.std.specs.Prelude.{Ok, Some, None, min, codes}
+use Rattle.std.proofs.lemmas.Bool.{or_parts, le-ltb, lt-leb}
 use Rattle.instruction_set.specs.declared.operands.OperandArea.TheVariants as areas
 use Rattle.stl_lex.specs.declared.piece.TokenKind.{TokenKind}
 use Rattle.stl_lex.specs.declared.piece.TokenKind.TheVariants as kinds
@@ -11,23 +11,23 @@ use Rattle.stl_decl.specs.declared.types.SimpleType.{SimpleType}
 use Rattle.stl_decl.specs.declared.types.SimpleType.TheVariants as types
 use Rattle.stl_decl.specs.Places.{Place}
 use Rattle.stl_decl.specs.Types.{rank, int_value, bits_of, element_bit}
-use Rattle.stl_decl.specs.Layout.{Section, variable_of}
-use Rattle.stl_decl.specs.Steps.{spelling, upper, is_sign, maybe_sign_at, sign_at}
-use Rattle.stl_decl.specs.Elements.{element_above, index_of, indexed_at, single_at, element_by}
+use Rattle.stl_decl.specs.Layout.{Section}
+use Rattle.stl_decl.specs.Steps.{is_sign, maybe_sign_at}
+use Rattle.stl_decl.specs.Elements.{element_above, index_of, indexed_at}
 use Rattle.stl_reader.specs.declared.forms.OperandForm.{OperandForm}
 use Rattle.stl_reader.specs.declared.forms.OperandForm.TheVariants as forms
 use Rattle.stl_reader.specs.declared.addresses.Operand.{Operand}
 use Rattle.stl_reader.specs.Forms.{accepts}
 use Rattle.stl_reader.specs.Constants.{is_real}
 use Rattle.stl_reader.specs.Operands.{takes_memory}
-use Rattle.stl_reader.specs.Locals.{local_form, local_at, suits_mnemonic, element_operand, variable_operand, named_local, local_operand}
+use Rattle.stl_reader.specs.Locals.{local_form, local_at, element_operand, variable_operand, local_operand}
 use Rattle.stl_reader.specs.Statements.{kind_operand, operand_at}
 use Rattle.reader_laws.specs.Tokens.{IsSign}
-use Rattle.reader_laws.specs.Operands.{operand, IsInteger, is_in_range, below, IsUnit, byte, char, word, int, s5time, date, dword, dint, time, time_of_day, IsLocal, of_bit, of_bytes, IsName, IsElement, last_of}
+use Rattle.reader_laws.specs.Operands.{operand, IsInteger, IsUnit, byte, char, word, int, s5time, date, dword, dint, time, time_of_day, IsLocal, of_bit, of_bytes, IsName, IsElement, last_of}
 use Rattle.reader_laws.specs.Spelled.{goes_on}
 use Rattle.reader_laws.proofs.Locals.{rank_below, last_closing}
 use Rattle.reader_laws.proofs.Opened.{memory_taken}
-use Rattle.reader_laws.proofs.Figures.{ReadsInteger, integer_again}
+use Rattle.reader_laws.proofs.Figures.{integer_again}
 
 -- a value of the type is this operand in this form
 record Stands (simple : SimpleType) (at : ℕ) (f : OperandForm) (o : Operand) : Type 0 where

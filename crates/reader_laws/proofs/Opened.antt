@@ -1,13 +1,12 @@
 -- Addresses of a data block by its number that are spelled so are read.
-use Rattle.std.proofs.Common.{◌≡◌, ◌<◌, ◌≤◌, ℕ, List, [], ◌∷◌, ◌++◌, refl, ap, sym, ◌∙◌, Bool, true, false, cond, ◌&&◌, ◌||◌, ◌⊎◌, inl, inr, arith}
-use Rattle.std.specs.Prelude.{Ok, Option, Some, None, not, map, drop, length, ◌==◌, ◌^◌, min, codes}
+use Rattle.std.proofs.Common.{◌≡◌, ◌<◌, ◌≤◌, ℕ, List, [], ◌∷◌, ◌++◌, refl, ap, sym, ◌∙◌, Bool, true, false, cond, ◌&&◌, ◌⊎◌, inl, inr, arith}
+use Rattle.std.specs.Prelude.{Ok, Some, None, not, map, drop, length, ◌==◌, ◌^◌, min, codes}
 use Rattle.std.specs.List.{find, list_all}
-use Rattle.std.specs.Str.{bytes_eq, str_to_ascii_lowercase}
+use Rattle.std.specs.Str.{str_to_ascii_lowercase}
 use Rattle.std.specs.Char.{is_ascii_digit, to_ascii_lowercase}
 use Rattle.std.proofs.lemmas.Bool.{and_parts, and_from, or_left, or_right, leb-true, lt-ltb, ne_eqb, not_from_false, false_from_ne_true}
 use Rattle.std.proofs.lemmas.List.{drop-map}
 use Rattle.std.proofs.lemmas.Slice.Eq.{bytes_eq-Decides}
-use Rattle.instruction_set.specs.declared.operands.OperandArea.{OperandArea}
 use Rattle.instruction_set.specs.declared.operands.OperandArea.TheVariants as areas
 use Rattle.s7_base.specs.Operands.{is_data_number}
 use Rattle.stl_lex.specs.Bytes.{spells, letters_of, begins}
@@ -66,12 +65,17 @@ some_if : (b : Bool) (n m : ℕ) → cond b (Some n) None ≡ Some m → b ≡ t
 some_if true n m e = refl
 some_if false n m e = absurd cc
 
+-- behind the first two letters of a data block's word stand digits
+pub digits_of : (word : List ℕ) (number : ℕ) → data_number word ≡ Some number → is_digits (drop 2 (str_to_ascii_lowercase word)) ≡ true
+digits_of word number e =
+    let holds = some_if (begins (codes "DB") word && is_digits (drop 2 word)) (min (min (value_of 10 (drop 2 word)) (2 ^ 32)) 4294967295) number e in
+    let digits = (and_parts (begins (codes "DB") word) (is_digits (drop 2 word)) holds).1 in
+    ap is_digits (drop-map to_ascii_lowercase 2 word) ∙ all_digits (drop 2 word) digits
+
 pub no_row : (word : List ℕ) (number : ℕ) → data_number word ≡ Some number → operand_word word ≡ None
 unfolding operand_word
 no_row word number e =
-    let holds = some_if (begins (codes "DB") word && is_digits (drop 2 word)) (min (min (value_of 10 (drop 2 word)) (2 ^ 32)) 4294967295) number e in
-    let digits = (and_parts (begins (codes "DB") word) (is_digits (drop 2 word)) holds).1 in
-    let lower : is_digits (drop 2 (str_to_ascii_lowercase word)) ≡ true = ap is_digits (drop-map to_ascii_lowercase 2 word) ∙ all_digits (drop 2 word) digits in
+    let lower = digits_of word number e in
     find_none (λ (row : OperandWord). spells (letters_of row.spelling) word) operand_words (λ row at.
     false_from_ne_true (spells (letters_of row.spelling) word) (λ h.
     let same : str_to_ascii_lowercase (letters_of row.spelling) ≡ str_to_ascii_lowercase word = (bytes_eq-Decides _ _).0 h in

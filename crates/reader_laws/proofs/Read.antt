@@ -1,5 +1,4 @@
 -- What is spelled as an operand is read as that operand.
-use Rattle.std.proofs.Common.{◌≡◌, ℕ, List, refl, ap, sym, ◌∙◌, ◌⊎◌, inl, inr}
 use Rattle.reader_laws.specs.Operands.{by_address, by_data_block, by_instance, by_system, by_sign, by_label, by_number, by_literal, by_name, by_element}
 use Rattle.reader_laws.specs.Spelled.{OperandsSpelledAreRead}
 use Rattle.reader_laws.proofs.Calls.{label_read, literal_read}

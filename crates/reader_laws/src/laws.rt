@@ -1,6 +1,6 @@
 //! What the reader reads, by how the language is spelled.
 ghost use Rattle.reader_laws.specs.Operands.{OperandsReadAreSpelled};
-ghost use Rattle.reader_laws.specs.Statements.{StatementsReadAreSpelled};
+ghost use Rattle.reader_laws.specs.Statements.{StatementsReadAreSpelled, StatementsSpelledAreRead};
 ghost use Rattle.reader_laws.specs.Spelled.{WordsSpelledAreFound, AddressesSpelledAreRead, LiteralsSpelledAreRead, LabelsSpelledAreRead, InstancesSpelledAreRead, SystemFunctionsSpelledAreRead, ComparisonsSpelledAreRead, DataAddressesSpelledAreRead, OperandsSpelledAreRead};
 ghost use Rattle.reader_laws.specs.Tables.{WordsSayTheirOperands, OneOperationForAnOperand, FormsStandApart};
 
@@ -84,4 +84,9 @@ pub fn comparisons_spelled_are_read()
 /// follows it but a point or a bracket, by which a number or a name would go on.
 pub fn operands_spelled_are_read()
     ensures { OperandsSpelledAreRead }
+{}
+
+/// What is spelled as a statement is read as that statement and as no other, whatever follows it.
+pub fn statements_spelled_are_read()
+    ensures { StatementsSpelledAreRead }
 {}
