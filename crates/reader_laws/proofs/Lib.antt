@@ -19,3 +19,4 @@ pub mod Read
 pub mod Mnemonics
 pub mod Begins
 pub mod Whole
+pub mod Spread

@@ -3,3 +3,4 @@ pub mod Operands
 pub mod Statements
 pub mod Tables
 pub mod Spelled
+pub mod Pieces

@@ -2,6 +2,7 @@
 ghost use Rattle.reader_laws.specs.Operands.{OperandsReadAreSpelled};
 ghost use Rattle.reader_laws.specs.Statements.{StatementsReadAreSpelled, StatementsSpelledAreRead};
 ghost use Rattle.reader_laws.specs.Spelled.{WordsSpelledAreFound, AddressesSpelledAreRead, LiteralsSpelledAreRead, LabelsSpelledAreRead, InstancesSpelledAreRead, SystemFunctionsSpelledAreRead, ComparisonsSpelledAreRead, DataAddressesSpelledAreRead, OperandsSpelledAreRead};
+ghost use Rattle.reader_laws.specs.Pieces.{PartsAreTokens};
 ghost use Rattle.reader_laws.specs.Tables.{WordsSayTheirOperands, OneOperationForAnOperand, FormsStandApart};
 
 /// What is read as an operand is spelled so, by the tables of the language: its word says its area and its unit, its
@@ -89,4 +90,9 @@ pub fn operands_spelled_are_read()
 /// What is spelled as a statement is read as that statement and as no other, whatever follows it.
 pub fn statements_spelled_are_read()
     ensures { StatementsSpelledAreRead }
+{}
+
+/// The tokens of parts with blanks between them are the parts' tokens, each where its part stands.
+pub fn parts_are_tokens()
+    ensures { PartsAreTokens }
 {}
