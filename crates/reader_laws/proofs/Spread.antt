@@ -1,22 +1,24 @@
 -- The tokens of parts with blanks between them.
-use Rattle.std.proofs.Common.{◌≡◌, ◌<◌, ◌≤◌, ◌+◌, ℕ, zero, suc, List, [], ◌∷◌, ◌++◌, take, drop, length, refl, ap, sym, subst, ◌∙◌, Bool, true, false, cond, ◌&&◌, ◌==◌, arith}
-use Rattle.std.specs.Prelude.{Ok, Option, Some, None, slice_index, nat_lt, nat_le, codes}
+use Rattle.std.proofs.Common.{◌≡◌, ◌<◌, ◌≤◌, ◌+◌, ◌-◌, ℕ, zero, suc, List, [], ◌∷◌, ◌++◌, take, drop, length, refl, ap, sym, subst, ◌∙◌, Bool, true, false, cond, ◌&&◌, ◌==◌, arith}
+use Rattle.std.specs.Prelude.{Result, Ok, Err, Option, Some, None, slice_index, nat_lt, nat_le, codes}
 use Rattle.std.specs.List.{prefix_len}
 use Rattle.std.specs.Char.{to_ascii_lowercase}
-use Rattle.std.proofs.lemmas.Bool.{and_parts, and_left, and_right, eqb-true}
+use Rattle.std.proofs.lemmas.Bool.{and_left, and_right, eqb-true}
 use Rattle.stl_lex.specs.declared.bytes.ByteClass.TheVariants as classes
 use Rattle.stl_lex.specs.declared.piece.TokenKind.{TokenKind}
 use Rattle.stl_lex.specs.declared.piece.TokenKind.TheVariants as kinds
+use Rattle.stl_lex.specs.declared.piece.Form.{Form}
 use Rattle.stl_lex.specs.declared.piece.Form.TheVariants.{Gap, Lexeme, Bad}
 use Rattle.stl_lex.specs.declared.place.Place.{Place}
+use Rattle.stl_lex.specs.declared.fault.LoadFault.{LoadFault}
 use Rattle.stl_lex.specs.declared.fault.TokenFault.{TokenFault}
 use Rattle.stl_lex.specs.declared.fault.TokenFault.TheVariants.{BadByte, UnclosedComment}
 use Rattle.stl_lex.specs.declared.token.Token.{Token}
 use Rattle.stl_lex.specs.Bytes.{is_of, is_run_byte, is_double_sign, is_sign, front_length, begins}
 use Rattle.stl_lex.specs.Place.{start, next, over}
 use Rattle.stl_lex.specs.Runs.{takes_sign, run_length, run_form}
-use Rattle.stl_lex.specs.Pieces.{gap, lexeme, bad, closes_at, comment_by, comment, is_title, line_length, attribute, characters, run, piece, begun, cut}
-use Rattle.stl_lex.specs.Tokens.{token, tokens_of}
+use Rattle.stl_lex.specs.Pieces.{gap, lexeme, bad, closes_at, comment_by, is_title, line_length, attribute, characters, run, piece, begun, cut}
+use Rattle.stl_lex.specs.Tokens.{token, joined, tokens_of, text_tokens}
 use Rattle.stl_lex.proofs.Cutting.{step, read_on}
 use Rattle.reader_laws.specs.Pieces.{Part, AreParts, spread, behind, laid, PartsAreTokens}
 
@@ -80,6 +82,7 @@ module _ (kind : TokenKind) (n : ℕ) where
     where
       m : ℕ
       m = front_length classes.Character bs
+
       by : (b : Bool) → (nat_lt 0 m && nat_le m 4) ≡ b → (c : Bool) → (slice_index bs m == 39) ≡ c → cond (b && c) (lexeme kinds.Characters (m + 2)) (bad BadByte 1) ≡ lexeme kind n → characters (a ∷ (bs ++ ys)) ≡ lexeme kind n
       by true few true is e =
           let h = closes (is_of classes.Character) 39 bs ys (λ z. cc) (eqb-true (slice_index bs m) 39 is) in
@@ -161,10 +164,56 @@ blank_piece : (opens : Bool) (ys : List ℕ) → piece opens (32 ∷ ys) ≡ gap
 unfolding piece
 blank_piece opens ys = refl
 
--- nothing is no part
-no_part : (kind : TokenKind) → piece true [] ≡ lexeme kind 0 → ⊥
-unfolding piece
-no_part kind e = no_bad kind 0 BadByte 1 e
+next_at : (p : Place) (b : ℕ) → (next p b).at ≡ p.at + 1
+next_at p b = by (b == 10)
+  where
+    by : (c : Bool) → (cond {A = Place} c (record { at = p.at + 1; line = p.line + 1; column = 1; opens_line = true }) (record { at = p.at + 1; line = p.line; column = p.column + 1; opens_line = p.opens_line })).at ≡ p.at + 1
+    by true = refl
+    by false = refl
+
+-- no token begins before the place that reading begins at
+first_at : (m : ℕ) (p : Place) (bs : List ℕ) (t : Token) (us : List Token) → tokens_of (cut m p bs) ≡ Ok (t ∷ us) → p.at ≤ t.from
+unfolding cut tokens_of
+first_at m p [] t us e = absurd cc
+first_at (suc m) p (b ∷ bs) t us e = let h = first_at m (next p b) bs t us e in let at = next_at p b in omega (arith, h, at)
+first_at zero p (b ∷ bs) t us e =
+    by (piece p.opens_line (b ∷ bs)).form (piece p.opens_line (b ∷ bs)).length (begun p (piece p.opens_line (b ∷ bs)).form) (tokens_of (cut ((piece p.opens_line (b ∷ bs)).length - 1) (next (begun p (piece p.opens_line (b ∷ bs)).form) b) bs)) (λ h. later (piece p.opens_line (b ∷ bs)).form (first_at ((piece p.opens_line (b ∷ bs)).length - 1) (next (begun p (piece p.opens_line (b ∷ bs)).form) b) bs t us h)) e
+  where
+    later : (form : Form) → (next (begun p form) b).at ≤ t.from → p.at ≤ t.from
+    later Gap h = let at = next_at p b in omega (arith, h, at)
+    later (Lexeme kind) h = let at = next_at (begun p (Lexeme kind)) b in omega (arith, h, at)
+    later (Bad fault) h = let at = next_at p b in omega (arith, h, at)
+
+    by : (form : Form) (n : ℕ) (q : Place) (others : Result (List Token) LoadFault) → (others ≡ Ok (t ∷ us) → p.at ≤ t.from) → joined p form n others ≡ Ok (t ∷ us) → p.at ≤ t.from
+    by Gap n q others h e = h e
+    by (Bad fault) n q others h e = absurd cc
+    by (Lexeme kind) n q (Err f) h e = absurd cc
+    by (Lexeme kind) n q (Ok ts) h e = let same : token p kind n ≡ t = cc in let from : p.at ≡ t.from = ap (λ u. u.from) same in omega (arith, from)
+
+-- what is one token by itself is that piece
+part_piece : (kind : TokenKind) (w : List ℕ) → text_tokens w ≡ Ok (token start kind (length w) ∷ []) → (piece true w ≡ lexeme kind (length w)) × (0 < length w)
+unfolding cut tokens_of
+part_piece kind [] e = absurd cc
+part_piece kind (b ∷ bs) e = (by (piece true (b ∷ bs)).form (piece true (b ∷ bs)).length (tokens_of (cut ((piece true (b ∷ bs)).length - 1) (next (begun start (piece true (b ∷ bs)).form) b) bs)) refl refl refl e, omega arith)
+  where
+    n : ℕ
+    n = length (b ∷ bs)
+
+    by : (form : Form) (m : ℕ) (others : Result (List Token) LoadFault) → (piece true (b ∷ bs)).form ≡ form → (piece true (b ∷ bs)).length ≡ m → tokens_of (cut ((piece true (b ∷ bs)).length - 1) (next (begun start (piece true (b ∷ bs)).form) b) bs) ≡ others → joined start form m others ≡ Ok (token start kind n ∷ []) → piece true (b ∷ bs) ≡ lexeme kind n
+    by Gap m others is long o e =
+        let gone : (piece true (b ∷ bs)).form ≡ Gap = is in
+        let h = first_at ((piece true (b ∷ bs)).length - 1) (next (begun start (piece true (b ∷ bs)).form) b) bs (token start kind n) [] (o ∙ e) in
+        let at : (next (begun start (piece true (b ∷ bs)).form) b).at ≡ 1 = ap (λ f. (next (begun start f) b).at) is ∙ next_at start b in
+        absurd (omega (arith, h, at))
+    by (Bad fault) m others is long o e = absurd cc
+    by (Lexeme k) m (Err f) is long o e = absurd cc
+    by (Lexeme k) m (Ok ts) is long o e =
+        let same : token start k m ≡ token start kind n = cc in
+        let kinds_same : k ≡ kind = ap (λ u. u.kind) same in
+        let lengths : 0 + m ≡ 0 + n = ap (λ u. u.to) same in
+        let size : (piece true (b ∷ bs)).length ≡ n = long ∙ omega (arith, lengths) in
+        let form : (piece true (b ∷ bs)).form ≡ Lexeme kind = is ∙ ap (λ k. Lexeme k) kinds_same in
+        rw (form, size) refl
 
 longer : (w ys : List ℕ) → 0 < length (w ++ 32 ∷ ys)
 longer [] ys = omega arith
@@ -187,11 +236,8 @@ pub parts_from : (p : Place) (xs : List Part) → AreParts xs → tokens_of (cut
 unfolding cut tokens_of
 parts_from p [] h = refl
 parts_from p (x ∷ xs) h =
-    part_read p x (spread xs) (laid (behind p x) xs) (piece_same x.kind p.opens_line x.bytes (spread xs) h.0.no_title h.0.one) (has_bytes x.bytes h.0.one) (parts_from (behind p x) xs h.1)
-  where
-    has_bytes : (w : List ℕ) → piece true w ≡ lexeme x.kind (length w) → 0 < length w
-    has_bytes [] e = absurd (no_part x.kind e)
-    has_bytes (b ∷ bs) e = omega arith
+    let one = part_piece x.kind x.bytes h.0.one in
+    part_read p x (spread xs) (laid (behind p x) xs) (piece_same x.kind p.opens_line x.bytes (spread xs) h.0.no_title one.0) one.1 (parts_from (behind p x) xs h.1)
 
 pub parts_read : PartsAreTokens
 parts_read xs h = parts_from start xs h

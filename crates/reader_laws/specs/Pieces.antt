@@ -1,12 +1,12 @@
 -- A text that is put together from parts with a blank behind each.
-use Rattle.std.specs.Prelude.{◌≡◌, ℕ, List, [], ◌∷◌, ◌++◌, length, Bool, true, false, Ok, codes}
+use Rattle.std.specs.Prelude.{◌≡◌, ℕ, List, [], ◌∷◌, ◌++◌, length, false, Ok, codes}
 use Rattle.stl_lex.specs.declared.piece.TokenKind.{TokenKind}
 use Rattle.stl_lex.specs.declared.piece.Form.TheVariants.{Lexeme}
 use Rattle.stl_lex.specs.declared.place.Place.{Place}
 use Rattle.stl_lex.specs.declared.token.Token.{Token}
 use Rattle.stl_lex.specs.Bytes.{begins}
 use Rattle.stl_lex.specs.Place.{start, next, over}
-use Rattle.stl_lex.specs.Pieces.{piece, lexeme, begun}
+use Rattle.stl_lex.specs.Pieces.{begun}
 use Rattle.stl_lex.specs.Tokens.{token, text_tokens}
 
 -- some bytes, and the kind of token that they are
@@ -14,10 +14,10 @@ pub record Part : Type 0 where
   pub bytes : List ℕ
   pub kind : TokenKind
 
--- Taken by itself, the part is one token that is as long as it is, and no title begins with it: it doesn't begin with
--- TITLE.
+-- As a text by itself the part is one token that is as long as it is; and no title begins with it: it doesn't begin
+-- with TITLE.
 pub record IsPart (x : Part) : Type 0 where
-  pub one : piece true x.bytes ≡ lexeme x.kind (length x.bytes)
+  pub one : text_tokens x.bytes ≡ Ok (token start x.kind (length x.bytes) ∷ [])
   pub no_title : begins (codes "TITLE") x.bytes ≡ false
 
 abbrev pub AreParts : List Part → Type 0
