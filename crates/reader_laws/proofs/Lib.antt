@@ -20,3 +20,4 @@ pub mod Mnemonics
 pub mod Begins
 pub mod Whole
 pub mod Spread
+pub mod Types

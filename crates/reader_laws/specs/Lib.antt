@@ -4,3 +4,4 @@ pub mod Statements
 pub mod Tables
 pub mod Spelled
 pub mod Pieces
+pub mod Types

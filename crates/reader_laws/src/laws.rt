@@ -3,6 +3,7 @@ ghost use Rattle.reader_laws.specs.Operands.{OperandsReadAreSpelled};
 ghost use Rattle.reader_laws.specs.Statements.{StatementsReadAreSpelled, StatementsSpelledAreRead};
 ghost use Rattle.reader_laws.specs.Spelled.{WordsSpelledAreFound, AddressesSpelledAreRead, LiteralsSpelledAreRead, LabelsSpelledAreRead, InstancesSpelledAreRead, SystemFunctionsSpelledAreRead, ComparisonsSpelledAreRead, DataAddressesSpelledAreRead, OperandsSpelledAreRead};
 ghost use Rattle.reader_laws.specs.Pieces.{PartsAreTokens};
+ghost use Rattle.reader_laws.specs.Types.{TypesSpelledAreRead};
 ghost use Rattle.reader_laws.specs.Tables.{WordsSayTheirOperands, OneOperationForAnOperand, FormsStandApart};
 
 /// What is read as an operand is spelled so, by the tables of the language: its word says its area and its unit, its
@@ -95,4 +96,9 @@ pub fn statements_spelled_are_read()
 /// The tokens of parts with blanks between them are the parts' tokens, each where its part stands.
 pub fn parts_are_tokens()
     ensures { PartsAreTokens }
+{}
+
+/// What is spelled as a type is read as that type and as no other, whatever follows it.
+pub fn types_spelled_are_read()
+    ensures { TypesSpelledAreRead }
 {}
