@@ -21,3 +21,4 @@ pub mod Begins
 pub mod Whole
 pub mod Spread
 pub mod Types
+pub mod Typed

@@ -1,22 +1,21 @@
 -- Types that are spelled so are read.
-use Rattle.std.proofs.Common.{◌≡◌, ◌≤◌, ◌<◌, ◌+◌, ◌-◌, ℕ, List, [], ◌∷◌, ◌++◌, refl, ap, sym, ◌∙◌, Bool, true, false, ◌||◌, arith, append_assoc}
-use Rattle.std.specs.Prelude.{Ok, Some, None, not, map, nat_lt, codes}
+use Rattle.std.proofs.Common.{◌≡◌, ◌≤◌, ◌+◌, ◌-◌, ℕ, List, [], ◌∷◌, ◌++◌, refl, ap, sym, ◌∙◌, Bool, true, false, ◌||◌, arith, append_assoc}
+use Rattle.std.specs.Prelude.{Ok, Some, not, map, codes}
 use Rattle.std.specs.List.{list_all}
 use Rattle.std.specs.Str.{bytes_eq, str_to_ascii_lowercase}
 use Rattle.std.proofs.lemmas.Bool.{le-ltb, and_right, false_from_ne_true}
 use Rattle.std.proofs.lemmas.Slice.Eq.{bytes_eq-Decides}
 use Rattle.stl_lex.specs.Bytes.{spells, letters_of}
 use Rattle.stl_lex.specs.declared.token.Token.{Token}
-use Rattle.stl_decl.specs.declared.steps.SignedNumber.{SignedNumber}
 use Rattle.stl_decl.specs.declared.types.SimpleType.{SimpleType}
 use Rattle.stl_decl.specs.declared.types.TypeRow.{TypeRow}
 use Rattle.stl_decl.specs.declared.types.Meaning.{Meaning}
 use Rattle.stl_decl.specs.declared.types.Meaning.TheVariants.{Known, Refused}
 use Rattle.stl_decl.specs.TypeWords.{type_words}
-use Rattle.stl_decl.specs.Types.{rank, int_value, type_row}
-use Rattle.stl_decl.specs.Steps.{spelling, is_word_kind, is_word, word_at, sign_at, maybe_word_at}
-use Rattle.stl_decl.specs.Declarations.{simple_at, bound_at, counted, count_between, closing_at, array_at, plain_at, shape_by, shape_at}
-use Rattle.reader_laws.specs.Tokens.{IsOneOf, IsSign}
+use Rattle.stl_decl.specs.Types.{type_row}
+use Rattle.stl_decl.specs.Steps.{spelling, is_word_kind, is_word, word_at, sign_at}
+use Rattle.stl_decl.specs.Declarations.{simple_at, bound_at, counted, count_between, closing_at, array_at, plain_at, shape_at}
+use Rattle.reader_laws.specs.Tokens.{IsSign}
 use Rattle.reader_laws.specs.Operands.{IsInteger, is_in_range, below, last_of}
 use Rattle.reader_laws.specs.Types.{IsTypeWord, AreBounds, of_word, of_array, TypesSpelledAreRead}
 use Rattle.reader_laws.specs.Tables.{are_apart}
@@ -65,7 +64,7 @@ between_again : (m n : Bool) (low high count : ℕ) (a b c d : Token) → AreBou
 between_again m n low high count a b c d h =
     rw (rank_below m low a b h.first, rank_below n high c d h.last) (count_again (below m low) (below n high) count c h.up h.elements h.most)
 
-last_behind : (a y : Token) (xs ys : List Token) → last_of a (xs ++ y ∷ ys) ≡ last_of y ys
+pub last_behind : (a y : Token) (xs ys : List Token) → last_of a (xs ++ y ∷ ys) ≡ last_of y ys
 last_behind a y [] ys = refl
 last_behind a y (x ∷ xs) ys = last_behind x y xs ys
 

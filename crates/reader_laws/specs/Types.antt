@@ -43,3 +43,15 @@ abbrev pub TypesSpelledAreRead : Type 0
 TypesSpelledAreRead =
     (text : List ℕ) (shape : Shape) (front rest : List Token) (l : Token)
     → IsType text shape front → shape_at text (front ++ rest) ≡ Ok (shape, last_of l front, rest)
+
+-- what was read as a type is spelled by the tokens that it took, up to the token that it names as the last
+pub record IsTypeRead (text : List ℕ) (tokens : List Token) (x : Shape × Token × List Token) : Type 0 where
+  pub front : List Token
+  pub cut : tokens ≡ front ++ x.2
+  pub last : last_of x.1 front ≡ x.1
+  pub spelled : IsType text x.0 front
+
+-- what is read as a type is spelled so
+abbrev pub TypesReadAreSpelled : Type 0
+TypesReadAreSpelled =
+    (text : List ℕ) (tokens : List Token) (x : Shape × Token × List Token) → shape_at text tokens ≡ Ok x → IsTypeRead text tokens x

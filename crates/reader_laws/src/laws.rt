@@ -3,7 +3,7 @@ ghost use Rattle.reader_laws.specs.Operands.{OperandsReadAreSpelled};
 ghost use Rattle.reader_laws.specs.Statements.{StatementsReadAreSpelled, StatementsSpelledAreRead};
 ghost use Rattle.reader_laws.specs.Spelled.{WordsSpelledAreFound, AddressesSpelledAreRead, LiteralsSpelledAreRead, LabelsSpelledAreRead, InstancesSpelledAreRead, SystemFunctionsSpelledAreRead, ComparisonsSpelledAreRead, DataAddressesSpelledAreRead, OperandsSpelledAreRead};
 ghost use Rattle.reader_laws.specs.Pieces.{PartsAreTokens};
-ghost use Rattle.reader_laws.specs.Types.{TypesSpelledAreRead};
+ghost use Rattle.reader_laws.specs.Types.{TypesReadAreSpelled, TypesSpelledAreRead};
 ghost use Rattle.reader_laws.specs.Tables.{WordsSayTheirOperands, OneOperationForAnOperand, FormsStandApart};
 
 /// What is read as an operand is spelled so, by the tables of the language: its word says its area and its unit, its
@@ -101,4 +101,9 @@ pub fn parts_are_tokens()
 /// What is spelled as a type is read as that type and as no other, whatever follows it.
 pub fn types_spelled_are_read()
     ensures { TypesSpelledAreRead }
+{}
+
+/// What is read as a type is spelled so: by its word, or as an array with its bounds and its elements' type.
+pub fn types_read_are_spelled()
+    ensures { TypesReadAreSpelled }
 {}
