@@ -20,6 +20,7 @@ use Rattle.stl_reader.specs.Statements.{kind_operand, operand_at}
 use Rattle.reader_laws.specs.Tokens.{IsSign}
 use Rattle.reader_laws.specs.Operands.{IsInteger, unsigned, positive, negative, is_in_range, number_form, operand, last_of}
 use Rattle.reader_laws.specs.Spelled.{goes_on}
+use Rattle.reader_laws.specs.Values.{first_in}
 use Rattle.reader_laws.proofs.Again.{number_no_sign}
 use Rattle.reader_laws.proofs.Compared.{sign_is, sign_kind_again}
 
@@ -52,6 +53,13 @@ module _ (text : List ℕ) where
   integer_again minus n front rest (unsigned t h) = record { first = t; read = λ l. rw (no_sign text (codes "-") t h, no_sign text (codes "+") t h) (signed_again false t t rest h) }
   integer_again minus n front rest (positive s t sign h) = record { first = s; read = λ l. rw (other_sign text (codes "+") (codes "-") s sign refl, sign) (signed_again false s t rest h) }
   integer_again minus n front rest (negative s t sign h) = record { first = s; read = λ l. rw sign (signed_again true s t rest h) }
+
+  -- its first token is the first of these
+  pub integer_from : (minus : Bool) (n : ℕ) (front rest : List Token) (l : Token) → IsInteger text minus n front → integer_at text (front ++ rest) ≡ Ok (record { negative = minus; magnitude = n; first = first_in l front; last = last_of l front }, rest)
+  unfolding integer_at
+  integer_from minus n front rest l (unsigned t h) = rw (no_sign text (codes "-") t h, no_sign text (codes "+") t h) (signed_again false t t rest h)
+  integer_from minus n front rest l (positive s t sign h) = rw (other_sign text (codes "+") (codes "-") s sign refl, sign) (signed_again false s t rest h)
+  integer_from minus n front rest l (negative s t sign h) = rw sign (signed_again true s t rest h)
 
   no_fraction : (rest : List Token) → goes_on text rest ≡ false → is_fraction text rest ≡ false
   no_fraction [] h = refl

@@ -22,3 +22,4 @@ pub mod Whole
 pub mod Spread
 pub mod Types
 pub mod Typed
+pub mod Values

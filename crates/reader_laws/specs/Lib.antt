@@ -5,3 +5,4 @@ pub mod Tables
 pub mod Spelled
 pub mod Pieces
 pub mod Types
+pub mod Values

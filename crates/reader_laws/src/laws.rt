@@ -4,6 +4,7 @@ ghost use Rattle.reader_laws.specs.Statements.{StatementsReadAreSpelled, Stateme
 ghost use Rattle.reader_laws.specs.Spelled.{WordsSpelledAreFound, AddressesSpelledAreRead, LiteralsSpelledAreRead, LabelsSpelledAreRead, InstancesSpelledAreRead, SystemFunctionsSpelledAreRead, ComparisonsSpelledAreRead, DataAddressesSpelledAreRead, OperandsSpelledAreRead};
 ghost use Rattle.reader_laws.specs.Pieces.{PartsAreTokens};
 ghost use Rattle.reader_laws.specs.Types.{TypesReadAreSpelled, TypesSpelledAreRead};
+ghost use Rattle.reader_laws.specs.Values.{ValuesReadAreSpelled, ValuesSpelledAreRead};
 ghost use Rattle.reader_laws.specs.Tables.{WordsSayTheirOperands, OneOperationForAnOperand, FormsStandApart};
 
 /// What is read as an operand is spelled so, by the tables of the language: its word says its area and its unit, its
@@ -106,4 +107,15 @@ pub fn types_spelled_are_read()
 /// What is read as a type is spelled so: by its word, or as an array with its bounds and its elements' type.
 pub fn types_read_are_spelled()
     ensures { TypesReadAreSpelled }
+{}
+
+/// What is read as a value of a type is spelled so, and suits the type: a number from -32,768 to 32,767, or one token
+/// that is a literal, characters, TRUE or FALSE.
+pub fn values_read_are_spelled()
+    ensures { ValuesReadAreSpelled }
+{}
+
+/// What is spelled as a value that suits the type is read as that value and as no other, whatever follows it.
+pub fn values_spelled_are_read()
+    ensures { ValuesSpelledAreRead }
 {}

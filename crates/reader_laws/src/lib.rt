@@ -9,5 +9,6 @@ pub use laws::{
     literals_spelled_are_read, one_operation_for_an_operand, operands_read_are_spelled,
     operands_spelled_are_read, parts_are_tokens, statements_read_are_spelled,
     statements_spelled_are_read, system_functions_spelled_are_read, types_read_are_spelled,
-    types_spelled_are_read, words_say_their_operands, words_spelled_are_found,
+    types_spelled_are_read, values_read_are_spelled, values_spelled_are_read,
+    words_say_their_operands, words_spelled_are_found,
 };
