@@ -1,4 +1,4 @@
--- What is spelled so is read: operands that begin with a word of the table, whatever follows them.
+-- What is spelled as an operand is read: each kind of operand, and all of them as one law.
 use Rattle.std.specs.Prelude.{◌≡◌, ℕ, List, ◌∷◌, ◌++◌, ◌⊎◌, ◌||◌, [], Bool, true, false, Some, Ok, codes}
 use Rattle.instruction_set.specs.declared.operands.OperandArea.TheVariants as areas
 use Rattle.s7_base.specs.Operands.{is_data_number}
