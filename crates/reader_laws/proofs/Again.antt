@@ -116,7 +116,7 @@ module _ (text mnemonic : List ℕ) where
   form_again forms.Bit row first tokens r is e = e
   form_again _ row first tokens r is e = absurd cc
 
-  plain_again : (row : OperandWord) (bit value : ℕ) (first : Token) (ts rest : List Token) → IsAddress text row bit value ts → plain_operand row.form text mnemonic row first (ts ++ rest) ≡ Ok (operand row.area bit 0 value, last_of first ts, rest)
+  pub plain_again : (row : OperandWord) (bit value : ℕ) (first : Token) (ts rest : List Token) → IsAddress text row bit value ts → plain_operand row.form text mnemonic row first (ts ++ rest) ≡ Ok (operand row.area bit 0 value, last_of first ts, rest)
   plain_again row bit value first ts rest (of_bit byte n b p x form hb hp hx small) = form_again row.form row first (b ∷ p ∷ x ∷ rest) (operand row.area bit 0 value, x, rest) form (bit_again row first byte n b p x rest hb hp hx small)
   plain_again row bit value first ts rest (of_number n t form h) = numbered_again row.form row first n t rest form h
   plain_again row bit value first ts rest (of_word form) = bare_again row.form row first rest form

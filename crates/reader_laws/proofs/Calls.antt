@@ -25,7 +25,7 @@ use Rattle.reader_laws.proofs.Again.{word_again, word_is, address_again, sign_ag
 
 module _ (text : List ℕ) (temps : Section) (mnemonic : List ℕ) where
   -- an operand that begins with a word, by what stands behind the word
-  word_read : (w : Token) (rest : List Token) (r : Operand × Token × List Token) → is_word_kind w.kind ≡ true → area_operand text mnemonic w rest ≡ Ok r → operand_at text temps mnemonic (w ∷ rest) ≡ Ok r
+  pub word_read : (w : Token) (rest : List Token) (r : Operand × Token × List Token) → is_word_kind w.kind ≡ true → area_operand text mnemonic w rest ≡ Ok r → operand_at text temps mnemonic (w ∷ rest) ≡ Ok r
   unfolding operand_at
   word_read w rest r kind e =
       let is = word_is w.kind kind in

@@ -32,7 +32,7 @@ sign_key row = letters_of row.sign
 signs_apart : are_apart (map sign_key status_signs) ≡ true
 signs_apart = refl
 
-status_again : (sign : List ℕ) (row : StatusSign) → IsOneOf row status_signs → sign ≡ letters_of row.sign → status_sign sign ≡ Some row
+pub status_again : (sign : List ℕ) (row : StatusSign) → IsOneOf row status_signs → sign ≡ letters_of row.sign → status_sign sign ≡ Some row
 unfolding status_sign
 status_again sign row h e = find_key sign_key sign status_signs row signs_apart h ((bytes_eq-Decides (letters_of row.sign) sign).1 (sym e))
 
@@ -48,11 +48,11 @@ both_not false false false e = refl
 both_not k true b e = absurd cc
 both_not k false true e = absurd cc
 
-sign_is : (k : TokenKind) → is_sign_kind k ≡ true → k ≡ kinds.Sign
+pub sign_is : (k : TokenKind) → is_sign_kind k ≡ true → k ≡ kinds.Sign
 sign_is kinds.Sign h = refl
 sign_is _ h = absurd cc
 
-sign_kind_again : (kind : TokenKind) (text : List ℕ) (temps : Section) (mnemonic : List ℕ) (s : Token) (rest tokens : List Token) (r : Operand × Token × List Token) → kind ≡ kinds.Sign → sign_by (status_sign (spelling text s)) text mnemonic s rest tokens ≡ Ok r → kind_operand kind text temps mnemonic s rest tokens ≡ Ok r
+pub sign_kind_again : (kind : TokenKind) (text : List ℕ) (temps : Section) (mnemonic : List ℕ) (s : Token) (rest tokens : List Token) (r : Operand × Token × List Token) → kind ≡ kinds.Sign → sign_by (status_sign (spelling text s)) text mnemonic s rest tokens ≡ Ok r → kind_operand kind text temps mnemonic s rest tokens ≡ Ok r
 sign_kind_again kinds.Sign text temps mnemonic s rest tokens r is e = e
 sign_kind_again _ text temps mnemonic s rest tokens r is e = absurd cc
 

@@ -10,3 +10,16 @@ pub mod Tables
 pub mod Again
 pub mod Calls
 pub mod Compared
+pub mod Forms
+pub mod Opened
+pub mod Figures
+pub mod Behind
+pub mod Named
+pub mod Read
+pub mod Mnemonics
+pub mod Begins
+pub mod Whole
+pub mod Spread
+pub mod Types
+pub mod Typed
+pub mod Values

@@ -53,7 +53,7 @@ both_false : (a b : Bool) → (a || b) ≡ false → (a ≡ false) × (b ≡ fal
 both_false false b e = (refl, e)
 both_false true b e = absurd cc
 
-rank_below : (minus : Bool) (n : ℕ) (first last : Token) → is_in_range minus n ≡ true → rank (int_value (record { negative = minus; magnitude = n; first = first; last = last })) ≡ below minus n
+pub rank_below : (minus : Bool) (n : ℕ) (first last : Token) → is_in_range minus n ≡ true → rank (int_value (record { negative = minus; magnitude = n; first = first; last = last })) ≡ below minus n
 rank_below false n first last h = refl
 rank_below true zero first last h = refl
 rank_below true (suc n) first last h = omega arith
@@ -79,6 +79,10 @@ module _ (place : Place) where
         within = omega (arith, same, within);
       }
 
+pub last_closing : (a closing : Token) (ts : List Token) → last_of a (ts ++ closing ∷ []) ≡ closing
+last_closing a closing [] = refl
+last_closing a closing (t ∷ ts) = last_closing t closing ts
+
 module _ (text : List ℕ) (temps : Section) (mnemonic : List ℕ) (first : Token) (rest : List Token) (x : Operand × Token × List Token) where
   abbrev Reads : Type 0
   Reads = IsReadAs text temps mnemonic (first ∷ rest) x
@@ -102,10 +106,6 @@ module _ (text : List ℕ) (temps : Section) (mnemonic : List ℕ) (first : Toke
         takes = h.takes;
         spelled = by_name place h.form (local_at place.shape.simple place.first_bit) first name p.0 h.spelled;
       })
-
-  last_closing : (a closing : Token) (ts : List Token) → last_of a (ts ++ closing ∷ []) ≡ closing
-  last_closing a closing [] = refl
-  last_closing a closing (t ∷ ts) = last_closing t closing ts
 
   indexed_takes : (place : Place) (opening : Token) (ts : List Token) → rest ≡ opening ∷ ts → IsSign text (codes "[") opening → IsName text temps place first → suits_mnemonic mnemonic (local_form place.shape.simple) ≡ true → (indexed_at text place.shape ts >>= λ element. Ok (local_at place.shape.simple (element_bit place element.0), element.1, element.2)) ≡ Ok x → Reads
   unfolding indexed_at

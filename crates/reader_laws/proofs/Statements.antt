@@ -7,8 +7,7 @@ use Rattle.std.proofs.lemmas.Slice.Eq.{bytes_eq-Decides}
 use Rattle.std.proofs.lemmas.Option.{slice_get-get_or}
 use Rattle.std.proofs.lemmas.List.Quantifiers.{position-Some}
 use Rattle.instruction_set.specs.declared.operands.OperandKind.TheVariants as operand_kinds
-use Rattle.instruction_set.specs.declared.operation.Operation.TheVariants as groups
-use Rattle.instruction_set.specs.declared.operation.BitLogic.TheVariants as logic
+use Rattle.instruction_set.specs.declared.operation.Operation.TheVariants as operations
 use Rattle.instruction_set.specs.declared.table.InstructionRow.{InstructionRow}
 use Rattle.s7_base.specs.declared.statement.Statement.{Statement}
 use Rattle.instruction_set.specs.InstructionSet.{instruction_set}
@@ -27,10 +26,11 @@ use Rattle.stl_reader.specs.Mnemonics.{row_named, refused_named, meaning_by, mea
 use Rattle.stl_reader.specs.Statements.{operand_at, wants_operand, no_operand, argument_at, stored, operation_of, operation_by, operation_at, first_of, closing_at, target_of, statement_at}
 use Rattle.stl_reader.proofs.Language.{bind_ok, operation_allows}
 use Rattle.reader_laws.specs.Tokens.{IsSign}
-use Rattle.reader_laws.specs.Statements.{IsMnemonic, in_one, in_two, IsArgument, of_operand, of_nothing, of_row, IsStatementRead}
+use Rattle.reader_laws.specs.Statements.{IsMnemonic, in_one, in_two, is_longest, IsArgument, of_operand, of_nothing, of_row, IsStatementRead}
 use Rattle.reader_laws.proofs.Steps.{if_ok, if_not, same_ok}
 use Rattle.reader_laws.proofs.Rows.{found}
 use Rattle.reader_laws.proofs.Takes.{operand_takes}
+use Rattle.reader_laws.proofs.Mnemonics.{no_instruction}
 
 row_spells : (word : List ℕ) (row : InstructionRow) → row_named word ≡ Some row → spells (letters_of row.mnemonic) word ≡ true
 unfolding row_named
@@ -51,31 +51,32 @@ record TakesMnemonic (text : List ℕ) (tokens : List Token) (x : List ℕ × To
   front : List Token
   cut : tokens ≡ front ++ x.2
   spelled : IsMnemonic text x.0 front
+  longest : is_longest text front x.2 ≡ true
 
 module _ (text : List ℕ) where
-  meant_takes : (first : Token) (o : Option Meaning) (front : List Token) (last : Token) (tokens rest : List Token) (x : List ℕ × Token × List Token) → tokens ≡ front ++ rest → ((mnemonic : List ℕ) → o ≡ Some (Mnemonic mnemonic) → IsMnemonic text mnemonic front) → mnemonic_by first (with_rest o last rest) ≡ Ok x → TakesMnemonic text tokens x
-  meant_takes first None front last tokens rest x cut make e = absurd cc
-  meant_takes first (Some (Refused fault)) front last tokens rest x cut make e = absurd cc
-  meant_takes first (Some (Mnemonic m)) front last tokens rest x cut make e =
-      subst (TakesMnemonic text tokens) (same_ok (m, last, rest) x e) (record { front = front; cut = cut; spelled = make m refl })
+  meant_takes : (first : Token) (o : Option Meaning) (front : List Token) (last : Token) (tokens rest : List Token) (x : List ℕ × Token × List Token) → tokens ≡ front ++ rest → ((mnemonic : List ℕ) → o ≡ Some (Mnemonic mnemonic) → IsMnemonic text mnemonic front) → is_longest text front rest ≡ true → mnemonic_by first (with_rest o last rest) ≡ Ok x → TakesMnemonic text tokens x
+  meant_takes first None front last tokens rest x cut make long e = absurd cc
+  meant_takes first (Some (Refused fault)) front last tokens rest x cut make long e = absurd cc
+  meant_takes first (Some (Mnemonic m)) front last tokens rest x cut make long e =
+      subst (TakesMnemonic text tokens) (same_ok (m, last, rest) x e) (record { front = front; cut = cut; spelled = make m refl; longest = long })
 
-  one_takes : (t : Token) (ts : List Token) (x : List ℕ × Token × List Token) → mnemonic_by t (one_at text (t ∷ ts)) ≡ Ok x → TakesMnemonic text (t ∷ ts) x
-  one_takes t ts x e = meant_takes t (meaning_of (spelling text t)) (t ∷ []) t (t ∷ ts) ts x refl (λ m is. in_one t (meaning_spells (spelling text t) m is)) e
+  one_takes : (t : Token) (ts : List Token) (x : List ℕ × Token × List Token) → is_longest text (t ∷ []) ts ≡ true → mnemonic_by t (one_at text (t ∷ ts)) ≡ Ok x → TakesMnemonic text (t ∷ ts) x
+  one_takes t ts x long e = meant_takes t (meaning_of (spelling text t)) (t ∷ []) t (t ∷ ts) ts x refl (λ m is. in_one t (meaning_spells (spelling text t) m is)) long e
 
   mnemonic_takes : (tokens : List Token) (x : List ℕ × Token × List Token) → mnemonic_at text tokens ≡ Ok x → TakesMnemonic text tokens x
   unfolding run_at
   mnemonic_takes [] x e = absurd cc
-  mnemonic_takes (t ∷ []) x e = one_takes t [] x e
+  mnemonic_takes (t ∷ []) x e = one_takes t [] x refl e
   mnemonic_takes (t ∷ u ∷ ts) x e = by (t.to == u.from) refl (meaning_of (spelling text (record t { to = u.to }))) refl e
     where
       by : (b : Bool) → (t.to == u.from) ≡ b → (o : Option Meaning) → meaning_of (spelling text (record t { to = u.to })) ≡ o → mnemonic_by t (longer_of (cond b (with_rest o u ts) None) (one_at text (t ∷ u ∷ ts))) ≡ Ok x → TakesMnemonic text (t ∷ u ∷ ts) x
-      by false near o is e = one_takes t (u ∷ ts) x e
-      by true near None is e = one_takes t (u ∷ ts) x e
+      by false near o is e = one_takes t (u ∷ ts) x (rw near refl) e
+      by true near None is e = one_takes t (u ∷ ts) x (rw (near, no_instruction (spelling text (record t { to = u.to })) is) refl) e
       by true near (Some meaning) is e =
-          meant_takes t (Some meaning) (t ∷ u ∷ []) u (t ∷ u ∷ ts) ts x refl (λ m h. in_two t u near (meaning_spells (spelling text (record t { to = u.to })) m (is ∙ h))) e
+          meant_takes t (Some meaning) (t ∷ u ∷ []) u (t ∷ u ∷ ts) ts x refl (λ m h. in_two t u near (meaning_spells (spelling text (record t { to = u.to })) m (is ∙ h))) refl e
 
 any_row : InstructionRow
-any_row = record { operation = groups.BitLogic logic.And; mnemonic = []; operand = operand_kinds.Nothing }
+any_row = record { operation = operations.Close; mnemonic = []; operand = operand_kinds.Nothing }
 
 -- the row of the operation that was found
 record HasRow (mnemonic : List ℕ) (n : ℕ) : Type 0 where
@@ -125,6 +126,13 @@ closing_takes text mnemonic last (t ∷ ts) rest e =
     let q = if_ok (is_sign text t (codes ";")) (Ok ts) (fault_at MissingSemicolon last) rest p.1 in
     subst (TakesClosing text (t ∷ ts)) (same_ok ts rest q.1) (record { semicolon = t; cut = refl; sign = q.0 })
 
+-- only the token behind a mnemonic says whether it goes on
+pub next_only : (text : List ℕ) (m ts rest : List Token) (s : Token) → is_longest text m (ts ++ (s ∷ rest)) ≡ is_longest text m (ts ++ s ∷ [])
+next_only text [] ts rest s = refl
+next_only text (t ∷ []) [] rest s = refl
+next_only text (t ∷ []) (u ∷ us) rest s = refl
+next_only text (t ∷ v ∷ vs) ts rest s = refl
+
 pub statement_takes : (text : List ℕ) (locals : ℕ) (temps : Section) (tokens : List Token) (x : Statement × Option (List ℕ) × List Token) → statement_at text locals temps tokens ≡ Ok x → IsStatementRead text locals temps tokens x
 unfolding statement_at
 statement_takes text locals temps tokens x e =
@@ -138,11 +146,13 @@ statement_takes text locals temps tokens x e =
     let ct = closing_takes text m.0.0 a.0.1 a.0.2 r.0 r.1 in
     let found_op = operation_found (operation_of m.0.0 locals a.0.0) (first_of m.0.1 m.0.2) op.0 op.1 in
     let row = row_found m.0.0 locals a.0.0 op.0 found_op in
+    let behind : m.0.2 ≡ at.front ++ (ct.semicolon ∷ r.0) = at.cut ∙ ap (λ ts. at.front ++ ts) ct.cut in
     subst (IsStatementRead text locals temps tokens) same (record {
       front = mt.front ++ (at.front ++ ct.semicolon ∷ []);
       cut = mt.cut ∙ (ap (λ ts. mt.front ++ ts) (at.cut ∙ (ap (λ ts. at.front ++ ts) ct.cut ∙ sym (append_assoc at.front (ct.semicolon ∷ []) r.0))) ∙ sym (append_assoc mt.front (at.front ++ ct.semicolon ∷ []) r.0));
       spelled = of_row op.0 row.row a.0.0 mt.front at.front ct.semicolon row.there
           (subst (λ w. IsMnemonic text w mt.front) (sym row.same) mt.spelled)
+          (sym (next_only text mt.front at.front r.0 ct.semicolon) ∙ (ap (is_longest text mt.front) (sym behind) ∙ mt.longest))
           (subst (λ w. IsArgument text temps w a.0.0 at.front) (sym row.same) at.spelled)
           (operation_allows m.0.0 locals a.0.0 op.0 found_op)
           ct.sign;

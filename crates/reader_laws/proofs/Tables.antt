@@ -52,10 +52,10 @@ kinds_apart : OperandKind → OperandKind → Bool
 kinds_apart k l = differ (area_of_kind k) (area_of_kind l) || special k l
 
 -- a row has no operand in common with a later one of its mnemonic
-row_apart : InstructionRow → InstructionRow → Bool
+pub row_apart : InstructionRow → InstructionRow → Bool
 row_apart a b = not (bytes_eq b.mnemonic a.mnemonic) || kinds_apart a.operand b.operand
 
-rows_apart : List InstructionRow → Bool
+unfoldable pub rows_apart : List InstructionRow → Bool
 rows_apart [] = true
 rows_apart (r ∷ rs) = list_all (row_apart r) rs && rows_apart rs
 
@@ -128,7 +128,7 @@ module _ (locals : ℕ) (s : Statement) where
     | inr h ↦ by_special k l h x y
   ]
 
-  rows_disjoint : (a b : InstructionRow) → row_apart a b ≡ true → a.mnemonic ≡ b.mnemonic → allows a.operand locals s ≡ true → allows b.operand locals s ≡ true → ⊥
+  pub rows_disjoint : (a b : InstructionRow) → row_apart a b ≡ true → a.mnemonic ≡ b.mnemonic → allows a.operand locals s ≡ true → allows b.operand locals s ≡ true → ⊥
   unfolding row_apart
   rows_disjoint a b e same x y = elim (either_true (not (bytes_eq b.mnemonic a.mnemonic)) (kinds_apart a.operand b.operand) e) [
     | inl h ↦ not_true (bytes_eq b.mnemonic a.mnemonic) ((bytes_eq-Decides b.mnemonic a.mnemonic).1 (sym same)) h
@@ -147,7 +147,7 @@ module _ (locals : ℕ) (s : Statement) where
       absurd (rows_disjoint b a (ap (λ r. row_apart r a) (sym is) ∙ apart) (sym same) y x)
   one_row (r ∷ rs) a b all (inr h) (inr k) same x y = one_row rs a b (and_parts (list_all (row_apart r) rs) (rows_apart rs) all).1 h k same x y
 
-table_apart : rows_apart instruction_set ≡ true
+pub table_apart : rows_apart instruction_set ≡ true
 unfolding rows_apart row_apart kinds_apart differ special area_of_kind
 table_apart = refl
 

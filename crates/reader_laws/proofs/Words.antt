@@ -38,7 +38,7 @@ no_word forms.Bit h k = cc
 no_word forms.Value h k = cc
 no_word _ h k = cc
 
-same_last : (text : List ℕ) (row : OperandWord) (bit value : ℕ) (ts : List Token) (a b : Token) → is_memory_form row.form ≡ true → IsAddress text row bit value ts → last_of a ts ≡ last_of b ts
+pub same_last : (text : List ℕ) (row : OperandWord) (bit value : ℕ) (ts : List Token) (a b : Token) → is_memory_form row.form ≡ true → IsAddress text row bit value ts → last_of a ts ≡ last_of b ts
 same_last text row bit value ts a b h (of_bit byte n u p v is k s l m) = refl
 same_last text row bit value ts a b h (of_number n t k l) = refl
 same_last text row bit value ts a b h (of_word k) = absurd (no_word row.form h k)

@@ -14,6 +14,7 @@ use Rattle.stl_reader.specs.declared.forms.OperandForm.{OperandForm}
 use Rattle.stl_reader.specs.declared.forms.OperandForm.TheVariants as forms
 use Rattle.stl_reader.specs.declared.words.OperandWord.{OperandWord}
 use Rattle.stl_reader.specs.OperandWords.{operand_words}
+use Rattle.stl_reader.specs.Forms.{accepts}
 use Rattle.reader_laws.specs.Tokens.{IsOneOf}
 
 -- the letters of an area
@@ -92,3 +93,10 @@ abbrev pub OneOperationForAnOperand : Type 0
 OneOperationForAnOperand =
     (a b : InstructionRow) (locals : ℕ) (s : Statement) → IsOneOf a instruction_set → IsOneOf b instruction_set
     → a.mnemonic ≡ b.mnemonic → allows a.operand locals s ≡ true → allows b.operand locals s ≡ true → a ≡ b
+
+-- Which forms stand behind one mnemonic: one that takes a label takes nothing else; none takes an FB both alone and with
+-- a data block; one that takes system functions takes functions.
+pub record FormsStandApart : Type 0 where
+  pub label : (mnemonic : List ℕ) (form : OperandForm) → accepts mnemonic forms.Label ≡ true → accepts mnemonic form ≡ true → form ≡ forms.Label
+  pub block : (mnemonic : List ℕ) → accepts mnemonic forms.FunctionBlock ≡ true → accepts mnemonic forms.FunctionBlockWithData ≡ false
+  pub system : (mnemonic : List ℕ) → accepts mnemonic forms.SystemFunction ≡ true → accepts mnemonic forms.Function ≡ true

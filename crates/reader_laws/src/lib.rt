@@ -4,8 +4,11 @@
 mod laws;
 
 pub use laws::{
-    addresses_spelled_are_read, comparisons_spelled_are_read, instances_spelled_are_read,
-    labels_spelled_are_read, literals_spelled_are_read, one_operation_for_an_operand,
-    operands_read_are_spelled, statements_read_are_spelled, system_functions_spelled_are_read,
+    addresses_spelled_are_read, comparisons_spelled_are_read, data_addresses_spelled_are_read,
+    forms_stand_apart, instances_spelled_are_read, labels_spelled_are_read,
+    literals_spelled_are_read, one_operation_for_an_operand, operands_read_are_spelled,
+    operands_spelled_are_read, parts_are_tokens, statements_read_are_spelled,
+    statements_spelled_are_read, system_functions_spelled_are_read, types_read_are_spelled,
+    types_spelled_are_read, values_read_are_spelled, values_spelled_are_read,
     words_say_their_operands, words_spelled_are_found,
 };
