@@ -3,3 +3,4 @@ pub mod Fields
 pub mod Images
 pub mod Refusal
 pub mod Text
+pub mod Words
