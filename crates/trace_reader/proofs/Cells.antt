@@ -1,5 +1,5 @@
 -- An image, cell by cell.
-use Rattle.std.proofs.Common.{◌≡◌, ℕ, suc, ◌+◌, ◌-◌, ◌≤◌, ◌<◌, Bool, true, false, eqb, List, [], ◌∷◌, ◌++◌, length, length-take, length-set, take, Option, Some, None, cond, refl, sym, ◌∙◌, ap, arith, append_assoc}
+use Rattle.std.proofs.Common.{◌≡◌, ℕ, suc, ◌+◌, ◌-◌, ◌≤◌, ◌<◌, Bool, true, false, eqb, List, [], ◌∷◌, ◌++◌, length, length-take, length-set, take, Option, Some, cond, refl, sym, ◌∙◌, ap, arith, append_assoc}
 use Rattle.std.specs.Prelude.{◌&&◌, codes, slice_set}
 use Rattle.std.proofs.lemmas.List.{append-nil, take_more_set, take_all}
 use Rattle.std.proofs.lemmas.Bool.{and_parts}

@@ -1,12 +1,12 @@
 -- What is written is read back: numbers, values and images.
-use Rattle.std.proofs.Common.{◌≡◌, inl, inr, ℕ, zero, suc, ◌+◌, ◌-◌, ◌*◌, ◌/◌, ◌%◌, ◌^◌, ◌<◌, ◌≤◌, Bool, true, false, ◌&&◌, cond, eqb, ltb, leb, nat_lt, eq-eqb, List, [], ◌∷◌, ◌++◌, length, Option, Some, None, refl, sym, ap, ◌∙◌, arith, append_assoc}
-use Rattle.std.specs.Prelude.{not, codes, ◌≢◌, nat_le}
+use Rattle.std.proofs.Common.{◌≡◌, ℕ, zero, suc, ◌+◌, ◌*◌, ◌/◌, ◌%◌, ◌<◌, ◌≤◌, Bool, true, false, ◌&&◌, cond, eqb, leb, eq-eqb, List, [], ◌∷◌, ◌++◌, length, Some, None, refl, sym, ap, ◌∙◌, arith, append_assoc}
+use Rattle.std.specs.Prelude.{not, codes}
 use Rattle.std.specs.Char.{is_ascii_digit}
-use Rattle.std.specs.Str.{all_ascii_digits, bytes_eq}
+use Rattle.std.specs.Str.{all_ascii_digits}
 use Rattle.std.specs.Fmt.{decimal}
-use Rattle.std.proofs.lemmas.Bool.{and_parts, le-leb, lt-ltb, cases_eq}
+use Rattle.std.proofs.lemmas.Bool.{and_parts, le-leb}
 use Rattle.std.proofs.lemmas.Fmt.{digits_decimal, decimal_digit}
-use Rattle.trace_reader.specs.Fields.{after, digits_at, number_of, number_at, hex_digit, hex_byte, hex_word, hex_double, digit_value, byte_at, word_value_at, double_at}
+use Rattle.trace_reader.specs.Fields.{digits_at, number_of, number_at, hex_digit, hex_byte, hex_word, hex_double, digit_value, byte_at, word_value_at, double_at}
 use Rattle.trace_reader.specs.Images.{cell, cell_text, cells_text, is_dark, image, cell_at, byte_or_dark, byte_of, cells_from, lit_or_dash, image_at}
 use Rattle.trace_reader.specs.Ranges.{AreBytes, IsImage}
 use Rattle.trace_reader.proofs.Cells.{dark_cells}
@@ -168,6 +168,7 @@ byte_of_again first at byte bytes left place fits fit e = by_byte (eqb byte 0) r
   where
     next : List ℕ
     next = cells_text (first && eqb byte 0) (at + 1) bytes ++ left
+
     by_byte : (t : Bool) → eqb byte 0 ≡ t → byte_or_dark ((cell_text first at byte ++ cells_text (first && eqb byte 0) (at + 1) bytes) ++ left) (cell_at first at ((cell_text first at byte ++ cells_text (first && eqb byte 0) (at + 1) bytes) ++ left)) ≡ (byte, next)
     by_byte true dark =
         let zero_byte : byte ≡ 0 = grind (arith, dark) in
@@ -176,7 +177,7 @@ byte_of_again first at byte bytes left place fits fit e = by_byte (eqb byte 0) r
         rw (dark, same, none, zero_byte) refl
     by_byte false lit =
         let found : cell_at first at ((cell_text first at byte ++ cells_text (first && eqb byte 0) (at + 1) bytes) ++ left) ≡ Some (byte, next) =
-          ap (cell_at first at) (append_assoc (cell_text first at byte) (cells_text (first && eqb byte 0) (at + 1) bytes) left) ∙ cell_read first at byte next (omega (arith, place)) fits lit in
+        ap (cell_at first at) (append_assoc (cell_text first at byte) (cells_text (first && eqb byte 0) (at + 1) bytes) left) ∙ cell_read first at byte next (omega (arith, place)) fits lit in
         ap (byte_or_dark ((cell_text first at byte ++ cells_text (first && eqb byte 0) (at + 1) bytes) ++ left)) found
 
 abbrev pub join : ℕ → List ℕ × List ℕ → List ℕ × List ℕ

@@ -1,25 +1,22 @@
 -- The entries that were written are read back.
-use Rattle.std.proofs.Common.{◌≡◌, inl, inr, ℕ, zero, suc, ◌+◌, ◌<◌, ◌≤◌, Bool, true, false, ◌&&◌, cond, eqb, eq-eqb, List, [], ◌∷◌, ◌++◌, length, Option, Some, None, refl, sym, ap, ◌∙◌, arith, append_assoc, length-append}
-use Rattle.std.specs.Prelude.{codes, ◌⊎◌}
+use Rattle.std.proofs.Common.{◌≡◌, inl, inr, ℕ, suc, ◌+◌, ◌<◌, ◌≤◌, Bool, true, false, cond, eqb, eq-eqb, List, [], ◌∷◌, ◌++◌, length, Some, None, refl, sym, ap, ◌∙◌, arith, append_assoc}
+use Rattle.std.specs.Prelude.{codes}
 use Rattle.std.specs.Char.{is_ascii_digit}
 use Rattle.std.specs.Str.{all_ascii_digits}
 use Rattle.std.specs.Fmt.{decimal}
 use Rattle.std.proofs.lemmas.Bool.{and_parts, eqb-true}
-use Rattle.std.proofs.lemmas.List.{append-nil}
 use Rattle.std.proofs.lemmas.Fmt.{digits_decimal, decimal_nonempty}
-use Rattle.trace_reader.specs.declared.trace.Side.{Side}
 use Rattle.trace_reader.specs.declared.trace.Side.TheVariants as sides
 use Rattle.trace_reader.specs.declared.trace.Showings.{Showings}
 use Rattle.trace_reader.specs.declared.trace.Showings.TheVariants as showings
 use Rattle.trace_reader.specs.declared.trace.Entry.{Entry}
-use Rattle.trace_reader.specs.Fields.{after, number_at}
+use Rattle.trace_reader.specs.Fields.{after}
 use Rattle.trace_reader.specs.Text.{request_text, answer_text, entry_line, shown_lines, entries_text}
 use Rattle.trace_reader.specs.Words.{side_at}
 use Rattle.trace_reader.specs.Requests.{request_at, answer_at}
 use Rattle.trace_reader.specs.Lines.{is_output, side_line_at, shown_at, showings_at, asked_at, entry_at}
-use Rattle.trace_reader.specs.Ranges.{FitsShowings, FitsEntry, Each, ClosesEntries}
+use Rattle.trace_reader.specs.Ranges.{FitsShowings, FitsEntry, ClosesEntries}
 use Rattle.trace_reader.proofs.Numbers.{own}
-use Rattle.trace_reader.proofs.ReadBack.{breaks_off, number_at_again}
 use Rattle.trace_reader.proofs.ReadLines.{number_before, number_then, request_again, answer_again}
 
 -- no showing begins here
@@ -39,9 +36,9 @@ asked_again k entry rest few fits =
     let same : eqb k k ≡ true = eq-eqb k k refl in
     let p : number_before 255 entry.priority asked rest = number_then 255 entry.priority asked rest (omega (arith, fits.0)) (omega (arith, fits.0)) refl in
     let r : request_at ((request_text entry.request ++ answered) ++ rest) ≡ Some (entry.request, answered ++ rest) =
-      ap request_at (append_assoc (request_text entry.request) answered rest) ∙ request_again entry.request (answered ++ rest) fits.1 refl in
+    ap request_at (append_assoc (request_text entry.request) answered rest) ∙ request_again entry.request (answered ++ rest) fits.1 refl in
     let a : answer_at (ending ++ rest) ≡ Some (entry.answer, 10 ∷ rest) =
-      ap answer_at (append_assoc (answer_text entry.answer) (codes "\n") rest) ∙ answer_again entry.answer (10 ∷ rest) fits.2 refl in
+    ap answer_at (append_assoc (answer_text entry.answer) (codes "\n") rest) ∙ answer_again entry.answer (10 ∷ rest) fits.2 refl in
     rw (n, same, p, r, a) refl
 
 shown_again : (shown : Showings) (rest : List ℕ) → NoShowing rest → shown_at (shown_lines shown ++ rest) ≡ (shown, rest)

@@ -1,10 +1,7 @@
 -- The words and the lines that were written are read back.
-use Rattle.std.proofs.Common.{◌≡◌, inl, inr, ℕ, suc, ◌+◌, ◌<◌, ◌≤◌, Bool, true, false, ◌&&◌, eqb, eq-eqb, List, [], ◌∷◌, ◌++◌, length, Option, Some, None, refl, sym, ap, ◌∙◌, arith, append_assoc}
+use Rattle.std.proofs.Common.{◌≡◌, ℕ, ◌<◌, ◌≤◌, true, List, ◌∷◌, ◌++◌, Option, Some, None, refl, ap, ◌∙◌, arith, append_assoc}
 use Rattle.std.specs.Prelude.{codes}
-use Rattle.std.specs.Option.{option_map}
 use Rattle.std.specs.Fmt.{decimal}
-use Rattle.trace_reader.specs.declared.trace.Mode.{Mode}
-use Rattle.trace_reader.specs.declared.trace.Mode.TheVariants.{Solo, Pair}
 use Rattle.trace_reader.specs.declared.trace.Side.{Side}
 use Rattle.trace_reader.specs.declared.trace.Side.TheVariants as sides
 use Rattle.trace_reader.specs.declared.trace.Loss.{Loss}
@@ -20,9 +17,8 @@ use Rattle.trace_reader.specs.declared.trace.Request.{Request}
 use Rattle.trace_reader.specs.declared.trace.Request.TheVariants as asks
 use Rattle.trace_reader.specs.declared.trace.Answer.{Answer}
 use Rattle.trace_reader.specs.declared.trace.Answer.TheVariants as answers
-use Rattle.trace_reader.specs.Fields.{after, hex_byte, hex_word, hex_double, number_at, byte_at, word_value_at, double_at}
-use Rattle.trace_reader.specs.Images.{image, image_at}
-use Rattle.trace_reader.specs.Text.{side_text, stop_text, loss_text, lost_text, back_text, width_digit, width_letter, value_text, area_text, place_text, reply_text, request_text, answer_text}
+use Rattle.trace_reader.specs.Fields.{hex_double, number_at}
+use Rattle.trace_reader.specs.Text.{side_text, stop_text, lost_text, back_text, width_digit, width_letter, value_text, area_text, place_text, reply_text, request_text, answer_text}
 use Rattle.trace_reader.specs.Words.{side_at, missing_ob_at, stop_at, loss_at, lost_at, width_digit_at, width_letter_at, value_at, area_at, place_at}
 use Rattle.trace_reader.specs.Requests.{plain_request_at, access_at, reply_at, request_at, plain_answer_at, value_answer_at, job_at, alarm_at, back_at, state_answer_at, answer_at}
 use Rattle.trace_reader.specs.Ranges.{FitsWidth, FitsArea, FitsPlace, FitsReply, FitsRequest, FitsAnswer}
@@ -92,7 +88,7 @@ pub place_again : (place : Place) (rest : List ℕ) → FitsPlace place → brea
 unfolding place_at
 place_again place rest fits e =
     let area : area_at ((area_text place.area place.width ++ (codes " " ++ decimal place.at)) ++ rest) ≡ Some ((place.area, place.width), 32 ∷ (decimal place.at ++ rest)) =
-      ap area_at (append_assoc (area_text place.area place.width) (codes " " ++ decimal place.at) rest) ∙ area_again place.area place.width (32 ∷ (decimal place.at ++ rest)) fits.0 in
+    ap area_at (append_assoc (area_text place.area place.width) (codes " " ++ decimal place.at) rest) ∙ area_again place.area place.width (32 ∷ (decimal place.at ++ rest)) fits.0 in
     let n : number_at 65535 (decimal place.at ++ rest) ≡ Some (place.at, rest) = number_at_again 65535 place.at rest (omega (arith, fits.1)) (omega (arith, fits.1)) e in
     rw (area, n) refl
 

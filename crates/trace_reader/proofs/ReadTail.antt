@@ -1,5 +1,5 @@
 -- The tail and the last line that were written are read back.
-use Rattle.std.proofs.Common.{◌≡◌, ℕ, suc, ◌+◌, ◌<◌, ◌≤◌, Bool, true, false, ◌&&◌, eqb, eq-eqb, List, [], ◌∷◌, ◌++◌, length, Option, Some, None, refl, sym, ap, ◌∙◌, arith, append_assoc}
+use Rattle.std.proofs.Common.{◌≡◌, ℕ, ◌<◌, ◌≤◌, true, eqb, eq-eqb, List, [], ◌∷◌, ◌++◌, Some, refl, ap, ◌∙◌, arith, append_assoc}
 use Rattle.std.specs.Prelude.{codes}
 use Rattle.std.specs.Fmt.{decimal}
 use Rattle.trace_reader.specs.declared.trace.Mode.{Mode}
@@ -14,10 +14,8 @@ use Rattle.trace_reader.specs.declared.trace.Event.TheVariants as events
 use Rattle.trace_reader.specs.declared.trace.Note.{Note}
 use Rattle.trace_reader.specs.declared.trace.Counter.{Counter}
 use Rattle.trace_reader.specs.declared.trace.Areas.{Areas}
-use Rattle.trace_reader.specs.declared.trace.Ending.{Ending}
 use Rattle.trace_reader.specs.declared.trace.Ending.TheVariants as endings
 use Rattle.trace_reader.specs.Blocks.{DataBlock}
-use Rattle.trace_reader.specs.Fields.{number_at}
 use Rattle.trace_reader.specs.Images.{image, image_at}
 use Rattle.trace_reader.specs.Text.{title_line, stop_text, lost_text, back_text, event_text, note_line, count_line, area_lines, block_line, counter_line, last_line}
 use Rattle.trace_reader.specs.Words.{side_at, stop_at, loss_at, lost_at}

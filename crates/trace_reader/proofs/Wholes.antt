@@ -7,9 +7,9 @@ use Rattle.trace_reader.specs.declared.trace.Ending.{Ending}
 use Rattle.trace_reader.specs.declared.trace.Ending.TheVariants as endings
 use Rattle.trace_reader.specs.declared.trace.Counter.{Counter}
 use Rattle.trace_reader.specs.declared.trace.Tail.{Tail}
-use Rattle.trace_reader.specs.Fields.{after, number_at}
+use Rattle.trace_reader.specs.Fields.{after}
 use Rattle.trace_reader.specs.Text.{note_line, area_lines, block_line, counter_line, count_line, notes_and_after, tail_lines, last_line}
-use Rattle.trace_reader.specs.Lines.{count_at, last_at, cut_at, ending_at}
+use Rattle.trace_reader.specs.Lines.{count_at, ending_at}
 use Rattle.trace_reader.specs.Ranges.{FitsTail, FitsEnding, ClosesEntries, ClosesTail}
 use Rattle.trace_reader.proofs.ReadBack.{number_at_none}
 use Rattle.trace_reader.proofs.ReadTail.{count_again, end_again, stopped_again, none_again, spent_again}

@@ -1,6 +1,5 @@
 -- The lines that stand at the front of a text, each read back as what it says, with the text after it.
 use Rattle.std.specs.Prelude.{ℕ, ◌==◌, Bool, true, false, List, Option, Some, None, if◌then◌else◌, codes}
-use Rattle.std.specs.Option.{option_map}
 use Rattle.trace_reader.specs.declared.trace.Mode.{Mode}
 use Rattle.trace_reader.specs.declared.trace.Mode.TheVariants.{Solo, Pair}
 use Rattle.trace_reader.specs.declared.trace.Side.{Side}

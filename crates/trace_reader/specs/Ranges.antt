@@ -1,5 +1,5 @@
 -- The traces: their numbers lie within their ranges, showings stand after outputs alone, and the end fits the tail.
-use Rattle.std.specs.Prelude.{◌≡◌, ℕ, ◌<◌, ◌⊎◌, ⊤, Bool, true, List, [], ◌∷◌, length, Option, Some, None, codes}
+use Rattle.std.specs.Prelude.{◌≡◌, ℕ, ◌<◌, ◌⊎◌, ⊤, true, List, [], ◌∷◌, length, Option, Some, None, codes}
 use Rattle.trace_reader.specs.declared.trace.Width.{Width}
 use Rattle.trace_reader.specs.declared.trace.Width.TheVariants.{Byte, Word, Double}
 use Rattle.trace_reader.specs.declared.trace.JobArea.{JobArea}
@@ -9,7 +9,6 @@ use Rattle.trace_reader.specs.declared.trace.Request.{Request}
 use Rattle.trace_reader.specs.declared.trace.Request.TheVariants as asks
 use Rattle.trace_reader.specs.declared.trace.Answer.{Answer}
 use Rattle.trace_reader.specs.declared.trace.Answer.TheVariants as answers
-use Rattle.trace_reader.specs.declared.trace.Showings.{Showings}
 use Rattle.trace_reader.specs.declared.trace.Showings.TheVariants as showings
 use Rattle.trace_reader.specs.declared.trace.Entry.{Entry}
 use Rattle.trace_reader.specs.declared.trace.Event.{Event}

@@ -75,9 +75,9 @@ value_at Double text = double_at text
 unfoldable pub area_at : List ℕ → Option ((JobArea × Width) × List ℕ)
 area_at text =
     past (codes "M") text
-      (λ rest. width_letter_at rest >>= (λ width. Some ((Memory, width.0), width.1)))
-      (after (codes "DB ") text >>= (λ rest. number_at 65535 rest >>= (λ number. after (codes " ") number.1 >>= (λ begin. width_letter_at begin >>= (λ width.
-        Some ((InBlock number.0, width.0), width.1))))))
+    (λ rest. width_letter_at rest >>= (λ width. Some ((Memory, width.0), width.1)))
+    (after (codes "DB ") text >>= (λ rest. number_at 65535 rest >>= (λ number. after (codes " ") number.1 >>= (λ begin. width_letter_at begin >>= (λ width.
+    Some ((InBlock number.0, width.0), width.1))))))
 
 -- where a job reads or writes
 unfoldable pub place_at : List ℕ → Option (Place × List ℕ)

@@ -82,7 +82,7 @@ fn tail_of(alloc: Global, notes: Vec<Note>, text: &[u8]) -> Result<(Tail, &[u8])
     ensures written { IfOk result (λ p. flat_map note_line notes.items ++ text.now ≡ notes_and_after p.0 ++ p.1.now) }
     ensures count { IfOk result (λ p. p.0.notes ≡ notes) }
     ensures exact { (areas : Areas) (blocks : List DataBlock) (counters : List Counter) (rest : List ℕ) → FitsAreas areas → Each FitsBlock blocks → Each FitsCounter counters → ClosesTail rest
-      → text.now ≡ area_lines areas ++ (flat_map block_line blocks ++ (flat_map counter_line counters ++ rest)) → IfOk result (λ p. p.1.now ≡ rest) × IfErr result (λ stop. stop ≡ stops.NoMemory) }
+        → text.now ≡ area_lines areas ++ (flat_map block_line blocks ++ (flat_map counter_line counters ++ rest)) → IfOk result (λ p. p.1.now ≡ rest) × IfErr result (λ stop. stop ≡ stops.NoMemory) }
 {
     let (areas, rest) = match areas_at(text) {
         Ok(found) => found,
@@ -181,9 +181,9 @@ fn line_of(text: &[u8], left: usize) -> usize
     number
 }
 
-/// Reads the text of a trace, as docs/trace.md describes it. What it returns is written by the same bytes. The fault of a
-/// text that is no trace names its first line that has no form or may not stand there, counted from 1; where the text
-/// ends too early, that is the line after the last.
+/// Reads the text of a trace, as docs/trace.md describes it. What it returns is written by the same bytes, and the text
+/// of a trace is refused for want of memory alone. The fault of another text names a line of the text, counted from 1, or
+/// the line after its last.
 pub fn read(alloc: Global, text: &[u8]) -> Result<Trace, TraceFault>
     ensures written { IfOk result (λ trace. text_of trace ≡ text.now) }
     ensures exact { (trace : Trace) → IsTrace trace → text_of trace ≡ text.now → IfErr result (λ fault. fault ≡ faults.NoMemory) }

@@ -1,4 +1,4 @@
-use Rattle.std.proofs.Common.{◌≡◌, ◌++◌, ◌<◌, ◌+◌, ℕ, List, [], ◌∷◌, length, Some, None, sym, ap, ◌∙◌, arith, length-append}
+use Rattle.std.proofs.Common.{◌≡◌, Some, None, sym}
 use Rattle.trace_reader.specs.Lines.{counter_at}
 use Rattle.trace_reader.specs.Ranges.{FitsCounter}
 use Rattle.trace_reader.specs.Text.{counter_line}

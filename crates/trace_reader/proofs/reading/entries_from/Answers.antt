@@ -1,5 +1,5 @@
-use Rattle.std.proofs.Common.{◌≡◌, ◌++◌, ◌<◌, ◌+◌, ℕ, List, [], ◌∷◌, length, Some, None, sym, ap, ◌∙◌, arith, length-append}
-use Rattle.std.proofs.Common.{refl, append_assoc}
+use Rattle.std.proofs.Common.{◌≡◌, ◌++◌, ◌+◌, ℕ, List, length, Some, None, sym, ap, ◌∙◌, arith}
+use Rattle.std.proofs.Common.{append_assoc}
 use Rattle.trace_reader.specs.Lines.{entry_at}
 use Rattle.trace_reader.specs.Text.{entry_line, shown_lines, entries_text}
 use Rattle.trace_reader.proofs.Sections.{entries_more}
@@ -15,7 +15,7 @@ entries-preserved c =
     let k : c.len.result ≡ length es = omega (arith, c.len.ensures, c.entries.entries.ok) in
     let found : entry_at (length es) c.entries.rest.now ≡ Some (e, next) = ap (λ (n : ℕ). entry_at n c.entries.rest.now) (sym k) ∙ sym c.in-Some.ensures.exact in
     let here : c.entries.rest.now ≡ entry_line (length es) e ++ (shown_lines e.shown ++ next) =
-      c.in-Some.ensures.written ∙ ap (λ (n : ℕ). entry_line n e ++ (shown_lines e.shown ++ next)) k in
+    c.in-Some.ensures.written ∙ ap (λ (n : ℕ). entry_line n e ++ (shown_lines e.shown ++ next)) k in
     let from_first : 0 + length es ≡ length es = omega arith in
     let last = entry_line (length es) e ++ shown_lines e.shown in
     record {

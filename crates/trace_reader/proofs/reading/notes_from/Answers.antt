@@ -1,10 +1,10 @@
-use Rattle.std.proofs.Common.{◌≡◌, ◌++◌, ◌<◌, ◌+◌, ℕ, List, [], ◌∷◌, length, Some, None, sym, ap, ◌∙◌, arith, length-append}
+use Rattle.std.proofs.Common.{◌≡◌, ◌++◌, ◌+◌, [], ◌∷◌, length, Some, sym, ap, arith, length-append}
 use Rattle.trace_reader.specs.Lines.{note_at}
 use Rattle.trace_reader.specs.Ranges.{FitsNote}
 use Rattle.trace_reader.specs.Text.{note_line}
 use Rattle.trace_reader.proofs.Sections.{more_after}
 use Rattle.trace_reader.proofs.ReadTail.{note_again}
-use Rattle.trace_reader.proofs.GoesOn.{one_of_many_less, none_left, many_done}
+use Rattle.trace_reader.proofs.GoesOn.{one_of_many_less, none_left}
 use Rattle.trace_reader.proofs.reading.notes_from.Goals as goal
 
 pub returns-in_default-clause-exact : goal.returns-in_default-clause-exact

@@ -1,4 +1,4 @@
-use Rattle.std.proofs.Common.{◌≡◌, ◌++◌, ℕ, List, Some, None, sym, ap, ◌∙◌}
+use Rattle.std.proofs.Common.{◌++◌}
 use Rattle.std.specs.List.{flat_map}
 use Rattle.trace_reader.specs.Text.{area_lines, block_line, counter_line}
 use Rattle.trace_reader.proofs.Wholes.{no_tail, has_tail}

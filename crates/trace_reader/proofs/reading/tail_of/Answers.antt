@@ -1,7 +1,7 @@
-use Rattle.std.proofs.Common.{◌≡◌, ◌++◌, ℕ, List, Some, None, sym, ap, ◌∙◌}
+use Rattle.std.proofs.Common.{◌++◌, ap, ◌∙◌}
 use Rattle.std.specs.List.{flat_map}
 use Rattle.trace_reader.specs.Lines.{areas_at}
-use Rattle.trace_reader.specs.Text.{area_lines, block_line, counter_line}
+use Rattle.trace_reader.specs.Text.{block_line, counter_line}
 use Rattle.trace_reader.proofs.ReadTail.{areas_again}
 use Rattle.trace_reader.proofs.GoesOn.{no_reading, same_left}
 use Rattle.trace_reader.proofs.Wholes.{counters_close}

@@ -1,5 +1,4 @@
-use Rattle.std.proofs.Common.{◌≡◌, ◌++◌, ℕ, List, [], Some, None, length, eqb, eq-eqb, sym, ap, ◌∙◌, arith, append_assoc}
-use Rattle.std.specs.Prelude.{is_some}
+use Rattle.std.proofs.Common.{◌≡◌, ◌++◌, ℕ, [], length, eq-eqb, sym, ap, ◌∙◌, arith}
 use Rattle.std.proofs.lemmas.Bool.{eqb-true}
 use Rattle.trace_reader.specs.Lines.{title_at, ending_at}
 use Rattle.trace_reader.specs.Text.{title_line, entries_text, tail_lines, last_line}
@@ -33,7 +32,7 @@ returns-in_default-ending_from-clause-exact c = λ trace fits whole.
     let n : length c.in-Ok.found.0.items ≡ length es = ap length entries.0 in
     let k : c.len.result ≡ length es = omega (arith, c.len.ensures, c.in-Ok.found.0.ok, n) in
     absurd (no_reading trace.ending [] (ending_at c.is_some.result c.len.result c.in-Ok-tail_from.found.1.now) c.in_default-ending_from.ensures.exact
-      (ending_again trace.tail trace.ending (length es) c.len.result c.is_some.result c.in-Ok-tail_from.found.1.now fits.3 fits.0 (c.is_some.ensures ∙ tail.0.0) k tail.0.1))
+    (ending_again trace.tail trace.ending (length es) c.len.result c.is_some.result c.in-Ok-tail_from.found.1.now fits.3 fits.0 (c.is_some.ensures ∙ tail.0.0) k tail.0.1))
 
 pub returns-then-not-is_empty-clause-exact : goal.returns-then-not-is_empty-clause-exact
 returns-then-not-is_empty-clause-exact c = λ trace fits whole.
@@ -46,8 +45,8 @@ returns-then-not-is_empty-clause-exact c = λ trace fits whole.
     let n : length c.in-Ok.found.0.items ≡ length es = ap length entries.0 in
     let k : c.len.result ≡ length es = omega (arith, c.len.ensures, c.in-Ok.found.0.ok, n) in
     let over : c.in-Some-ending_from.after.now ≡ [] =
-      same_left c.in-Some-ending_from.ending trace.ending c.in-Some-ending_from.after.now [] (ending_at c.is_some.result c.len.result c.in-Ok-tail_from.found.1.now) c.in-Some-ending_from.ensures.exact
-      (ending_again trace.tail trace.ending (length es) c.len.result c.is_some.result c.in-Ok-tail_from.found.1.now fits.3 fits.0 (c.is_some.ensures ∙ tail.0.0) k tail.0.1) in
+    same_left c.in-Some-ending_from.ending trace.ending c.in-Some-ending_from.after.now [] (ending_at c.is_some.result c.len.result c.in-Ok-tail_from.found.1.now) c.in-Some-ending_from.ensures.exact
+    (ending_again trace.tail trace.ending (length es) c.len.result c.is_some.result c.in-Ok-tail_from.found.1.now fits.3 fits.0 (c.is_some.ensures ∙ tail.0.0) k tail.0.1) in
     let none : length c.in-Some-ending_from.after.now ≡ 0 = ap length over in
     absurd (never (c.if-not-is_empty.ensures ∙ eq-eqb (length c.in-Some-ending_from.after.now) 0 none))
 
@@ -57,6 +56,6 @@ returns-clause-written c =
     let none : length over ≡ 0 = eqb-true (length over) 0 (sym c.if-not-is_empty.ensures) in
     let count : c.len.result ≡ length c.in-Ok.found.0.items = omega (arith, c.len.ensures, c.in-Ok.found.0.ok) in
     let last : c.in-Ok-tail_from.found.1.now ≡ last_line c.in-Some-ending_from.ending (length c.in-Ok.found.0.items) ++ over =
-      c.in-Some-ending_from.ensures.written ∙ ap (λ (n : ℕ). last_line c.in-Some-ending_from.ending n ++ over) count in
+    c.in-Some-ending_from.ensures.written ∙ ap (λ (n : ℕ). last_line c.in-Some-ending_from.ending n ++ over) count in
     whole_text (title_line c.in-Some.mode) (entries_text 0 c.in-Ok.found.0.items) (tail_lines c.in-Ok-tail_from.found.0) (last_line c.in-Some-ending_from.ending (length c.in-Ok.found.0.items)) over
-      c.args.text.now c.in-Some.rest.now c.in-Ok.found.1.now c.in-Ok-tail_from.found.1.now c.in-Some.ensures.written c.in-Ok.ensures.written c.in-Ok-tail_from.ensures.written last none
+    c.args.text.now c.in-Some.rest.now c.in-Ok.found.1.now c.in-Ok-tail_from.found.1.now c.in-Some.ensures.written c.in-Ok.ensures.written c.in-Ok-tail_from.ensures.written last none
