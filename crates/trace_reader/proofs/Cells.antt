@@ -1,9 +1,11 @@
 -- An image, cell by cell.
-use Rattle.std.proofs.Common.{◌≡◌, ℕ, suc, ◌+◌, ◌≤◌, ◌<◌, Bool, true, false, eqb, List, [], ◌∷◌, ◌++◌, length, length-take, take, cond, refl, sym, ◌∙◌, ap, arith, append_assoc}
+use Rattle.std.proofs.Common.{◌≡◌, ℕ, suc, ◌+◌, ◌-◌, ◌≤◌, ◌<◌, Bool, true, false, eqb, List, [], ◌∷◌, ◌++◌, length, length-take, length-set, take, Option, Some, cond, refl, sym, ◌∙◌, ap, arith, append_assoc}
 use Rattle.std.specs.Prelude.{◌&&◌, codes, slice_set}
 use Rattle.std.proofs.lemmas.List.{append-nil, take_more_set, take_all}
 use Rattle.std.proofs.lemmas.Bool.{and_parts}
-use Rattle.trace_reader.specs.Images.{cell_text, cells_text, is_dark, image}
+use Rattle.std.specs.Option.{option_map}
+use Rattle.trace_reader.specs.Fields.{after}
+use Rattle.trace_reader.specs.Images.{cell_text, cells_text, is_dark, image, byte_of, cells_from, lit_or_dash, image_at}
 
 and_true : (a : Bool) → (a && true) ≡ a
 and_true true = refl
@@ -65,3 +67,60 @@ dark_image text bytes rest left at all whole first is lit here =
     let dark : is_dark bytes ≡ true = ap is_dark (sym full) ∙ sym is ∙ lit in
     let none : cells_text true 0 (take at bytes) ≡ [] = ap (cells_text true 0) full ∙ dark_cells true 0 bytes dark in
     whole ∙ ap (λ (t : List ℕ). t ++ rest) none ∙ here ∙ ap (λ (t : Bool). cond t (codes "-") (cells_text true 0 bytes) ++ left) (sym dark)
+
+-- the bytes read so far, in front of those that are read from here on
+abbrev pub with_bytes : List ℕ → List ℕ × List ℕ → List ℕ × List ℕ
+with_bytes front cells = (front ++ cells.0, cells.1)
+
+one_more : (first : Bool) (at count byte : ℕ) (rest next front : List ℕ) → (byte, next) ≡ byte_of first at rest → with_bytes front (cells_from first at (suc count) rest) ≡ with_bytes (front ++ byte ∷ []) (cells_from (first && eqb byte 0) (at + 1) count next)
+unfolding cells_from
+one_more first at count byte rest next front is =
+    let later = cells_from (first && eqb byte 0) (at + 1) count next in
+    rw (sym is) (ap (λ (xs : List ℕ). (xs, later.1)) (sym (append_assoc front (byte ∷ []) later.0)))
+
+-- the reading goes on behind the byte that was read
+pub cells_go_on : (text bytes rest next : List ℕ) (at byte : ℕ) (first : Bool) → at < length bytes → (byte, next) ≡ byte_of first at rest
+    → with_bytes (take at bytes) (cells_from first at (length bytes - at) rest) ≡ cells_from true 0 (length bytes) text
+    → with_bytes (take (at + 1) (slice_set bytes at byte)) (cells_from (first && eqb byte 0) (at + 1) (length (slice_set bytes at byte) - (at + 1)) next) ≡ cells_from true 0 (length (slice_set bytes at byte)) text
+cells_go_on text bytes rest next at byte first below is before =
+    let count = length bytes - (at + 1) in
+    let turn : length bytes - at ≡ suc count = omega (arith, below) in
+    let same : length (slice_set bytes at byte) ≡ length bytes = length-set bytes at byte in
+    rw same (
+    ap (λ (front : List ℕ). with_bytes front (cells_from (first && eqb byte 0) (at + 1) count next)) (take_more_set bytes at byte below)
+    ∙ sym (one_more first at count byte rest next (take at bytes) is)
+    ∙ ap (λ (n : ℕ). with_bytes (take at bytes) (cells_from first at n rest)) (sym turn)
+    ∙ before)
+
+none_left : (first : Bool) (at : ℕ) (rest front : List ℕ) → with_bytes front (cells_from first at 0 rest) ≡ (front, rest)
+unfolding cells_from
+none_left first at rest front = ap (λ (xs : List ℕ). (xs, rest)) (append-nil front)
+
+-- all bytes are read
+cells_done : (text bytes rest : List ℕ) (all at : ℕ) (first : Bool) → length bytes ≤ at → length bytes ≡ all
+    → with_bytes (take at bytes) (cells_from first at (all - at) rest) ≡ cells_from true 0 all text → cells_from true 0 all text ≡ (bytes, rest)
+cells_done text bytes rest all at first over same before =
+    let none : all - at ≡ 0 = omega (arith, over, same) in
+    let full : take at bytes ≡ bytes = take_all at bytes over in
+    sym before ∙ ap (λ (n : ℕ). with_bytes (take at bytes) (cells_from first at n rest)) none ∙ none_left first at rest (take at bytes) ∙ ap (λ (xs : List ℕ). (xs, rest)) full
+
+dark_at_end : (bytes : List ℕ) (at : ℕ) (first : Bool) → length bytes ≤ at → first ≡ is_dark (take at bytes) → is_dark bytes ≡ first
+dark_at_end bytes at first over is = ap is_dark (sym (take_all at bytes over)) ∙ sym is
+
+pub lit_exact : (text bytes rest : List ℕ) (all at : ℕ) (first : Bool) → length bytes ≤ at → length bytes ≡ all
+    → with_bytes (take at bytes) (cells_from first at (all - at) rest) ≡ cells_from true 0 all text
+    → first ≡ is_dark (take at bytes) → first ≡ false → Some (bytes, rest) ≡ image_at all text
+unfolding image_at
+lit_exact text bytes rest all at first over same before is lit =
+    let cells = cells_done text bytes rest all at first over same before in
+    let dark : is_dark bytes ≡ false = dark_at_end bytes at first over is ∙ lit in
+    sym (ap lit_or_dash cells ∙ rw dark refl)
+
+pub dash_exact : (text bytes rest : List ℕ) (all at : ℕ) (first : Bool) (o : Option (List ℕ)) → length bytes ≤ at → length bytes ≡ all
+    → with_bytes (take at bytes) (cells_from first at (all - at) rest) ≡ cells_from true 0 all text
+    → first ≡ is_dark (take at bytes) → first ≡ true → o ≡ after (codes "-") rest → option_map (λ left. (bytes, left)) o ≡ image_at all text
+unfolding image_at
+dash_exact text bytes rest all at first o over same before is lit found =
+    let cells = cells_done text bytes rest all at first over same before in
+    let dark : is_dark bytes ≡ true = dark_at_end bytes at first over is ∙ lit in
+    sym (ap lit_or_dash cells ∙ rw (dark, sym found) refl)

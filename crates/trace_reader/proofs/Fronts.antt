@@ -4,7 +4,7 @@ use Rattle.std.specs.Prelude.{◌≢◌}
 use Rattle.std.specs.Option.{option_map, MatchOption}
 use Rattle.std.proofs.lemmas.Bool.{eqb-true}
 use denote.Ref.{Bor}
-use Rattle.trace_reader.specs.Fields.{after, digits_at, hex_word, hex_double}
+use Rattle.trace_reader.specs.Fields.{after, hex_word, hex_double}
 
 abbrev some : {A : Type 0} → A → Option A
 some x = Some x

@@ -1,4 +1,10 @@
 pub mod Cells
 pub mod Fronts
+pub mod GoesOn
 pub mod Numbers
+pub mod ReadBack
+pub mod ReadEntries
+pub mod ReadLines
+pub mod ReadTail
 pub mod Sections
+pub mod Wholes

@@ -1,5 +1,9 @@
 pub mod Blocks
 pub mod Fields
 pub mod Images
+pub mod Lines
+pub mod Ranges
 pub mod Refusal
+pub mod Requests
 pub mod Text
+pub mod Words

@@ -1,6 +1,12 @@
 //! The data blocks and the counters of a tail.
-ghost use Rattle.std.specs.Prelude.{◌≡◌, ◌++◌, ◌<◌, length, IfOk, IfSome};
+ghost use Rattle.std.specs.Prelude.{◌≡◌, ◌++◌, ◌<◌, ℕ, List, length, codes, None, IfOk, IfSome};
 ghost use Rattle.std.specs.List.{flat_map};
+ghost use Rattle.std.specs.Option.{option_map};
+ghost use Rattle.trace_reader.specs.declared.trace.Counter.{Counter};
+ghost use Rattle.trace_reader.specs.Blocks.{DataBlock};
+ghost use Rattle.trace_reader.specs.Fields.{after};
+ghost use Rattle.trace_reader.specs.Ranges.{Each, FitsBlock, FitsCounter};
+ghost use Rattle.trace_reader.specs.Lines.{block_at};
 ghost use Rattle.trace_reader.specs.Text.{block_line, counter_line};
 
 use crate::fields::after;
@@ -14,8 +20,9 @@ use std::alloc::{AllocError, Global};
 const BLOCK_BYTES: usize = 65_536;
 
 /// Returns a data block, and the text after its line, or None where the next line is none.
-#[tactic(auto, using(std::proofs::Common::append_assoc))]
+#[tactic(auto, unfolding(crate::specs::Lines::block_at), using(std::proofs::Common::append_assoc))]
 fn block_at(alloc: Global, text: &[u8]) -> Result<Option<(Block, &[u8])>, AllocError>
+    ensures exact { IfOk result (λ found. option_map (λ p. (p.0, p.1.now)) found ≡ block_at text.now) }
     ensures written { IfOk result (λ found. IfSome found (λ p. text.now ≡ block_line p.0 ++ p.1.now)) }
     ensures shorter { IfOk result (λ found. IfSome found (λ p. length p.1.now < length text.now)) }
 {
@@ -42,6 +49,7 @@ fn block_at(alloc: Global, text: &[u8]) -> Result<Option<(Block, &[u8])>, AllocE
 #[tactic(auto, using(crate::proofs::Sections::more_after, std::proofs::Common::append_assoc))]
 pub fn blocks_from(alloc: Global, text: &[u8]) -> Result<(Vec<Block>, &[u8]), AllocError>
     ensures written { IfOk result (λ p. text.now ≡ flat_map block_line p.0.items ++ p.1.now) }
+    ensures exact { (blocks : List DataBlock) (rest : List ℕ) → Each FitsBlock blocks → after (codes "DB ") rest ≡ None → text.now ≡ flat_map block_line blocks ++ rest → IfOk result (λ p. p.1.now ≡ rest) }
 {
     let mut blocks = Vec::new(alloc);
     let mut rest = text;
@@ -56,6 +64,7 @@ pub fn blocks_from(alloc: Global, text: &[u8]) -> Result<(Vec<Block>, &[u8]), Al
 #[tactic(auto, using(crate::proofs::Sections::more_after, std::proofs::Common::append_assoc))]
 pub fn counters_from(alloc: Global, text: &[u8]) -> Result<(Vec<Counter>, &[u8]), AllocError>
     ensures written { IfOk result (λ p. text.now ≡ flat_map counter_line p.0.items ++ p.1.now) }
+    ensures exact { (counters : List Counter) (rest : List ℕ) → Each FitsCounter counters → after (codes "C ") rest ≡ None → text.now ≡ flat_map counter_line counters ++ rest → IfOk result (λ p. p.1.now ≡ rest) }
 {
     let mut counters = Vec::new(alloc);
     let mut rest = text;

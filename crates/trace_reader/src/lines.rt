@@ -1,6 +1,9 @@
 //! The lines of a trace, each at the front of a text.
 ghost use Rattle.std.specs.Prelude.{◌≡◌, ◌∷◌, ◌++◌, ◌<◌, length, codes, IfOk, IfSome};
 ghost use Rattle.std.specs.Fmt.{decimal};
+ghost use Rattle.std.specs.Option.{option_map};
+ghost use Rattle.std.specs.Result.{result_ok};
+ghost use Rattle.trace_reader.specs.Lines.{title_at, is_output, side_line_at, shown_at, showings_at, asked_at, entry_at, count_at, note_at, image_line_at, areas_at, counter_at, entries_at, last_at, cut_at};
 ghost use Rattle.trace_reader.specs.Images.{image};
 ghost use Rattle.trace_reader.specs.Text.{title_line, side_text, entry_line, shown_lines, count_line, note_line, counter_line, area_lines, last_line};
 
@@ -11,7 +14,9 @@ use crate::trace::{Answer, Areas, Counter, Ending, Entry, Mode, Note, Request, S
 use crate::words::{address_at, side_at, small_at, stop_at};
 
 /// Returns what the first line says, and the text after it.
+#[tactic(auto, unfolding(crate::specs::Lines::title_at))]
 pub fn title_at(text: &[u8]) -> Option<(Mode, &[u8])>
+    ensures exact { option_map (λ p. (p.0, p.1.now)) result ≡ title_at text.now }
     ensures written { IfSome result (λ p. text.now ≡ title_line p.0 ++ p.1.now) }
 {
     if let Some(rest) = after(b"TRACE 1 SOLO\n", text) {
@@ -22,7 +27,9 @@ pub fn title_at(text: &[u8]) -> Option<(Mode, &[u8])>
 }
 
 /// Returns whether an entry shows an output: it is one of the image or of the periphery, and it is done.
-fn is_output(request: &Request, answer: &Answer) -> bool {
+fn is_output(request: &Request, answer: &Answer) -> bool
+    ensures { result ≡ is_output request.now answer.now }
+{
     let outputs = matches!(
         request,
         Request::Outputs(_) | Request::WritePeripheral { .. }
@@ -31,8 +38,9 @@ fn is_output(request: &Request, answer: &Answer) -> bool {
 }
 
 /// Returns the side of a line that is this word and a side, and the text after it.
-#[tactic(auto, using(std::proofs::Common::append_assoc))]
+#[tactic(auto, unfolding(crate::specs::Lines::side_line_at), using(std::proofs::Common::append_assoc))]
 fn side_line_at<'a>(word: &[u8], text: &'a [u8]) -> Option<(Side, &'a [u8])>
+    ensures exact { option_map (λ p. (p.0, p.1.now)) result ≡ side_line_at word.now text.now }
     ensures written { IfSome result (λ p. text.now ≡ word.now ++ (side_text p.0 ++ (10 ∷ p.1.now))) }
 {
     let rest = after(word, text)?;
@@ -42,8 +50,9 @@ fn side_line_at<'a>(word: &[u8], text: &'a [u8]) -> Option<(Side, &'a [u8])>
 }
 
 /// Returns the showings of an output, and the text after their lines.
-#[tactic(auto, using(std::proofs::Common::append_assoc))]
+#[tactic(auto, unfolding(crate::specs::Lines::shown_at), using(std::proofs::Common::append_assoc))]
 fn shown_at(text: &[u8]) -> (Showings, &[u8])
+    ensures exact { (result.0, result.1.now) ≡ shown_at text.now }
     ensures written { text.now ≡ shown_lines result.0 ++ result.1.now }
 {
     let Some((first, rest)) = side_line_at(b"SHOW ", text) else {
@@ -56,7 +65,9 @@ fn shown_at(text: &[u8]) -> (Showings, &[u8])
 }
 
 /// Returns the showings that may stand after an entry, and the text after their lines.
+#[tactic(auto, unfolding(crate::specs::Lines::showings_at))]
 fn showings_at<'a>(request: &Request, answer: &Answer, text: &'a [u8]) -> (Showings, &'a [u8])
+    ensures exact { (result.0, result.1.now) ≡ showings_at request.now answer.now text.now }
     ensures written { text.now ≡ shown_lines result.0 ++ result.1.now }
 {
     if is_output(request, answer) {
@@ -67,8 +78,9 @@ fn showings_at<'a>(request: &Request, answer: &Answer, text: &'a [u8]) -> (Showi
 }
 
 /// Returns the priority, the request and the answer of entry k, and the text after its line.
-#[tactic(auto, using(std::proofs::Common::append_assoc))]
+#[tactic(auto, unfolding(crate::specs::Lines::asked_at), using(std::proofs::Common::append_assoc))]
 fn asked_at(text: &[u8], k: usize) -> Option<(Entry, &[u8])>
+    ensures exact { option_map (λ p. (p.0, p.1.now)) result ≡ asked_at k text.now }
     ensures written { IfSome result (λ p. text.now ≡ entry_line k p.0 ++ p.1.now) }
 {
     let (number, rest) = number_at(text, u32::MAX)?;
@@ -93,8 +105,9 @@ fn asked_at(text: &[u8], k: usize) -> Option<(Entry, &[u8])>
 }
 
 /// Returns entry k with its showings, and the text after their lines.
-#[tactic(auto, using(std::proofs::Common::append_assoc))]
+#[tactic(auto, unfolding(crate::specs::Lines::entry_at), using(std::proofs::Common::append_assoc))]
 pub fn entry_at(text: &[u8], k: usize) -> Option<(Entry, &[u8])>
+    ensures exact { option_map (λ p. (p.0, p.1.now)) result ≡ entry_at k text.now }
     ensures written { IfSome result (λ p. text.now ≡ entry_line k p.0 ++ (shown_lines p.0.shown ++ p.1.now)) }
     ensures shorter { IfSome result (λ p. length p.1.now < length text.now) }
 {
@@ -104,8 +117,9 @@ pub fn entry_at(text: &[u8], k: usize) -> Option<(Entry, &[u8])>
 }
 
 /// Returns the number of diagnostic entries that the next line says, and the text after it.
-#[tactic(auto, using(std::proofs::Common::append_assoc))]
+#[tactic(auto, unfolding(crate::specs::Lines::count_at), using(std::proofs::Common::append_assoc))]
 pub fn count_at(text: &[u8]) -> Option<(u32, &[u8])>
+    ensures exact { option_map (λ p. (p.0, p.1.now)) result ≡ count_at text.now }
     ensures written { IfSome result (λ p. text.now ≡ count_line p.0 ++ p.1.now) }
 {
     let rest = after(b"DIAG ", text)?;
@@ -115,8 +129,9 @@ pub fn count_at(text: &[u8]) -> Option<(u32, &[u8])>
 }
 
 /// Returns a diagnostic entry, and the text after its line.
-#[tactic(auto, using(std::proofs::Common::append_assoc))]
+#[tactic(auto, unfolding(crate::specs::Lines::note_at), using(std::proofs::Common::append_assoc))]
 pub fn note_at(text: &[u8]) -> Option<(Note, &[u8])>
+    ensures exact { option_map (λ p. (p.0, p.1.now)) result ≡ note_at text.now }
     ensures written { IfSome result (λ p. text.now ≡ note_line p.0 ++ p.1.now) }
 {
     let (moment, rest) = number_at(text, u32::MAX)?;
@@ -127,8 +142,9 @@ pub fn note_at(text: &[u8]) -> Option<(Note, &[u8])>
 }
 
 /// Returns the image of a line that begins with this name, and the text after it.
-#[tactic(auto, using(std::proofs::Common::append_assoc))]
+#[tactic(auto, unfolding(crate::specs::Lines::image_line_at), using(std::proofs::Common::append_assoc))]
 fn process_line_at<'a>(name: &[u8], text: &'a [u8]) -> Option<([u8; 64], &'a [u8])>
+    ensures exact { option_map (λ p. (p.0, p.1.now)) result ≡ image_line_at name.now 64 text.now }
     ensures written { IfSome result (λ p. text.now ≡ name.now ++ (image p.0 ++ 10 ∷ p.1.now)) }
 {
     let rest = after(name, text)?;
@@ -138,8 +154,9 @@ fn process_line_at<'a>(name: &[u8], text: &'a [u8]) -> Option<([u8; 64], &'a [u8
 }
 
 /// Returns the image of bit memory, and the text after its line.
-#[tactic(auto, using(std::proofs::Common::append_assoc))]
+#[tactic(auto, unfolding(crate::specs::Lines::image_line_at), using(std::proofs::Common::append_assoc))]
 fn memory_line_at(text: &[u8]) -> Option<([u8; 1024], &[u8])>
+    ensures exact { option_map (λ p. (p.0, p.1.now)) result ≡ image_line_at (codes "M ") 1024 text.now }
     ensures written { IfSome result (λ p. text.now ≡ codes "M " ++ (image p.0 ++ 10 ∷ p.1.now)) }
 {
     let rest = after(b"M ", text)?;
@@ -150,8 +167,9 @@ fn memory_line_at(text: &[u8]) -> Option<([u8; 1024], &[u8])>
 
 /// Returns the images of I, Q and M, and the text after their lines. Where a line is no such image, returns how many
 /// bytes are left from that line on.
-#[tactic(auto, using(std::proofs::Common::append_assoc))]
+#[tactic(auto, unfolding(crate::specs::Lines::areas_at), using(std::proofs::Common::append_assoc))]
 pub fn areas_at(text: &[u8]) -> Result<(Areas, &[u8]), usize>
+    ensures exact { option_map (λ p. (p.0, p.1.now)) (result_ok result) ≡ areas_at text.now }
     ensures written { IfOk result (λ p. text.now ≡ area_lines p.0 ++ p.1.now) }
 {
     let (inputs, after_inputs) = process_line_at(b"I ", text).ok_or(text.len())?;
@@ -166,8 +184,9 @@ pub fn areas_at(text: &[u8]) -> Result<(Areas, &[u8]), usize>
 }
 
 /// Returns a counter, and the text after its line.
-#[tactic(auto, using(std::proofs::Common::append_assoc))]
+#[tactic(auto, unfolding(crate::specs::Lines::counter_at), using(std::proofs::Common::append_assoc))]
 pub fn counter_at(text: &[u8]) -> Option<(Counter, &[u8])>
+    ensures exact { option_map (λ p. (p.0, p.1.now)) result ≡ counter_at text.now }
     ensures written { IfSome result (λ p. text.now ≡ counter_line p.0 ++ p.1.now) }
     ensures shorter { IfSome result (λ p. length p.1.now < length text.now) }
 {
@@ -180,7 +199,9 @@ pub fn counter_at(text: &[u8]) -> Option<(Counter, &[u8])>
 }
 
 /// Returns the text after the number of the entries, where that is this one.
+#[tactic(auto, unfolding(crate::specs::Lines::entries_at))]
 fn entries_at<'a>(text: &'a [u8], count: usize) -> Option<&'a [u8]>
+    ensures exact { option_map (λ rest. rest.now) result ≡ entries_at count text.now }
     ensures written { IfSome result (λ rest. text.now ≡ decimal count ++ rest.now) }
 {
     let (number, rest) = number_at(text, u32::MAX)?;
@@ -191,8 +212,9 @@ fn entries_at<'a>(text: &'a [u8], count: usize) -> Option<&'a [u8]>
 }
 
 /// Returns how a trace of so many entries ended that has a tail, and the text after its last line.
-#[tactic(auto, using(std::proofs::Common::append_assoc))]
+#[tactic(auto, unfolding(crate::specs::Lines::last_at), using(std::proofs::Common::append_assoc))]
 pub fn last_at(text: &[u8], count: usize) -> Option<(Ending, &[u8])>
+    ensures exact { option_map (λ p. (p.0, p.1.now)) result ≡ last_at count text.now }
     ensures written { IfSome result (λ p. text.now ≡ last_line p.0 count ++ p.1.now) }
 {
     if let Some(rest) = after(b"END ", text) {
@@ -209,8 +231,9 @@ pub fn last_at(text: &[u8], count: usize) -> Option<(Ending, &[u8])>
 }
 
 /// Returns how a trace of so many entries ended that has no tail, and the text after its last line.
-#[tactic(auto, using(std::proofs::Common::append_assoc))]
+#[tactic(auto, unfolding(crate::specs::Lines::cut_at), using(std::proofs::Common::append_assoc))]
 pub fn cut_at(text: &[u8], count: usize) -> Option<(Ending, &[u8])>
+    ensures exact { option_map (λ p. (p.0, p.1.now)) result ≡ cut_at count text.now }
     ensures written { IfSome result (λ p. text.now ≡ last_line p.0 count ++ p.1.now) }
 {
     if let Some(rest) = after(b"NONE ", text) {

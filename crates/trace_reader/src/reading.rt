@@ -1,7 +1,19 @@
 //! Reads a trace, section by section.
-ghost use Rattle.std.specs.Prelude.{◌≡◌, ◌++◌, ◌-◌, length, IfOk, IfErr, IfSome};
+ghost use Rattle.std.specs.Prelude.{◌≡◌, ◌++◌, ◌-◌, ◌<◌, ℕ, List, Option, length, codes, None, is_some, IfOk, IfErr, IfSome};
 ghost use Rattle.std.specs.List.{flat_map};
-ghost use Rattle.trace_reader.specs.Text.{entries_text, note_line, notes_and_after, tail_lines, last_line, text_of};
+ghost use Rattle.trace_reader.specs.declared.trace.Entry.{Entry};
+ghost use Rattle.trace_reader.specs.declared.trace.Note.{Note};
+ghost use Rattle.trace_reader.specs.declared.trace.Areas.{Areas};
+ghost use Rattle.trace_reader.specs.declared.trace.Counter.{Counter};
+ghost use Rattle.trace_reader.specs.declared.trace.Tail.{Tail};
+ghost use Rattle.trace_reader.specs.declared.trace.Trace.{Trace};
+ghost use Rattle.trace_reader.specs.declared.reading.Stop.TheVariants as stops;
+ghost use Rattle.trace_reader.specs.declared.reading.TraceFault.TheVariants as faults;
+ghost use Rattle.trace_reader.specs.Blocks.{DataBlock};
+ghost use Rattle.trace_reader.specs.Ranges.{Each, FitsEntry, FitsNote, FitsAreas, FitsBlock, FitsCounter, FitsTail, IsTrace, ClosesEntries, ClosesTail};
+ghost use Rattle.trace_reader.specs.Text.{entries_text, note_line, area_lines, block_line, counter_line, notes_and_after, tail_lines, last_line, text_of};
+ghost use Rattle.std.specs.Option.{option_map};
+ghost use Rattle.trace_reader.specs.Lines.{ending_at};
 ghost use Rattle.trace_reader.specs.Refusal.{line_number, IsLineOf};
 
 use crate::blocks::{blocks_from, counters_from};
@@ -32,6 +44,7 @@ enum Stop {
 #[tactic(auto, using(crate::proofs::Sections::entries_more, std::proofs::Common::append_assoc))]
 fn entries_from(alloc: Global, text: &[u8]) -> Result<(Vec<Entry>, &[u8]), AllocError>
     ensures written { IfOk result (λ p. text.now ≡ entries_text 0 p.0.items ++ p.1.now) }
+    ensures exact { (entries : List Entry) (rest : List ℕ) → length entries < 4294967296 → Each FitsEntry entries → ClosesEntries rest → text.now ≡ entries_text 0 entries ++ rest → IfOk result (λ p. (p.0.items ≡ entries) × (p.1.now ≡ rest)) }
 {
     let mut entries = Vec::new(alloc);
     let mut rest = text;
@@ -47,6 +60,7 @@ fn entries_from(alloc: Global, text: &[u8]) -> Result<(Vec<Entry>, &[u8]), Alloc
 fn notes_from(alloc: Global, text: &[u8], count: u32) -> Result<(Vec<Note>, &[u8]), Stop>
     ensures written { IfOk result (λ p. text.now ≡ flat_map note_line p.0.items ++ p.1.now) }
     ensures count { IfOk result (λ p. length p.0.items ≡ count) }
+    ensures exact { (notes : List Note) (rest : List ℕ) → length notes ≡ count → Each FitsNote notes → text.now ≡ flat_map note_line notes ++ rest → IfOk result (λ p. p.1.now ≡ rest) × IfErr result (λ stop. stop ≡ stops.NoMemory) }
 {
     let mut notes = Vec::new(alloc);
     let mut rest = text;
@@ -67,6 +81,8 @@ fn notes_from(alloc: Global, text: &[u8], count: u32) -> Result<(Vec<Note>, &[u8
 fn tail_of(alloc: Global, notes: Vec<Note>, text: &[u8]) -> Result<(Tail, &[u8]), Stop>
     ensures written { IfOk result (λ p. flat_map note_line notes.items ++ text.now ≡ notes_and_after p.0 ++ p.1.now) }
     ensures count { IfOk result (λ p. p.0.notes ≡ notes) }
+    ensures exact { (areas : Areas) (blocks : List DataBlock) (counters : List Counter) (rest : List ℕ) → FitsAreas areas → Each FitsBlock blocks → Each FitsCounter counters → ClosesTail rest
+        → text.now ≡ area_lines areas ++ (flat_map block_line blocks ++ (flat_map counter_line counters ++ rest)) → IfOk result (λ p. p.1.now ≡ rest) × IfErr result (λ stop. stop ≡ stops.NoMemory) }
 {
     let (areas, rest) = match areas_at(text) {
         Ok(found) => found,
@@ -93,6 +109,7 @@ fn tail_of(alloc: Global, notes: Vec<Note>, text: &[u8]) -> Result<(Tail, &[u8])
 #[tactic(auto, using(std::proofs::Common::append_assoc))]
 fn tail_from(alloc: Global, text: &[u8]) -> Result<(Option<Tail>, &[u8]), Stop>
     ensures written { IfOk result (λ p. text.now ≡ tail_lines p.0 ++ p.1.now) }
+    ensures exact { (tail : Option Tail) (rest : List ℕ) → FitsTail tail → ClosesTail rest → text.now ≡ tail_lines tail ++ rest → IfOk result (λ p. (is_some p.0 ≡ is_some tail) × (p.1.now ≡ rest)) × IfErr result (λ stop. stop ≡ stops.NoMemory) }
 {
     let Some((count, rest)) = count_at(text) else {
         return Ok((None, text));
@@ -110,6 +127,7 @@ fn tail_from(alloc: Global, text: &[u8]) -> Result<(Option<Tail>, &[u8]), Stop>
 /// Returns how a trace of so many entries ended, and the text after its last line.
 fn ending_from(text: &[u8], has_tail: bool, count: usize) -> Option<(Ending, &[u8])>
     ensures written { IfSome result (λ p. text.now ≡ last_line p.0 count ++ p.1.now) }
+    ensures exact { option_map (λ p. (p.0, p.1.now)) result ≡ ending_at has_tail count text.now }
 {
     if has_tail {
         last_at(text, count)
@@ -122,6 +140,7 @@ fn ending_from(text: &[u8], has_tail: bool, count: usize) -> Option<(Ending, &[u
 #[tactic(auto, using(std::proofs::Common::append_assoc))]
 fn trace_from(alloc: Global, text: &[u8]) -> Result<Trace, Stop>
     ensures written { IfOk result (λ trace. text_of trace ≡ text.now) }
+    ensures exact { (trace : Trace) → IsTrace trace → text_of trace ≡ text.now → IfErr result (λ stop. stop ≡ stops.NoMemory) }
 {
     let Some((mode, rest)) = title_at(text) else {
         return Err(Stop::Left(text.len()));
@@ -162,11 +181,12 @@ fn line_of(text: &[u8], left: usize) -> usize
     number
 }
 
-/// Reads the text of a trace, as docs/trace.md describes it. What it returns is written by the same bytes. The fault of a
-/// text that is no trace names a line of the text, counted from 1, or the line after its last; NoMemory says nothing of
-/// the text.
+/// Reads the text of a trace, as docs/trace.md describes it. What it returns is written by the same bytes, and the text
+/// of a trace is refused for want of memory alone. The fault of another text names a line of the text, counted from 1, or
+/// the line after its last.
 pub fn read(alloc: Global, text: &[u8]) -> Result<Trace, TraceFault>
     ensures written { IfOk result (λ trace. text_of trace ≡ text.now) }
+    ensures exact { (trace : Trace) → IsTrace trace → text_of trace ≡ text.now → IfErr result (λ fault. fault ≡ faults.NoMemory) }
     ensures line { IfErr result (λ fault. IsLineOf text.now fault) }
 {
     match trace_from(alloc, text) {

@@ -1,5 +1,7 @@
 //! What the CPU asked and what it was answered.
 ghost use Rattle.std.specs.Prelude.{◌≡◌, ◌++◌, IfSome};
+ghost use Rattle.std.specs.Option.{option_map};
+ghost use Rattle.trace_reader.specs.Requests.{plain_request_at, access_at, reply_at, request_at, plain_answer_at, value_answer_at, job_at, alarm_at, back_at, state_answer_at, answer_at, numbered_event_at, event_at};
 ghost use Rattle.trace_reader.specs.Text.{request_text, answer_text, entry_line, event_text, side_text, back_text};
 
 use crate::fields::{after, double_at, number_at};
@@ -10,7 +12,9 @@ use crate::words::{
 };
 
 /// Returns a request of one word, and the text after it.
+#[tactic(auto, unfolding(crate::specs::Requests::plain_request_at))]
 fn plain_request_at(text: &[u8]) -> Option<(Request, &[u8])>
+    ensures exact { option_map (λ p. (p.0, p.1.now)) result ≡ plain_request_at text.now }
     ensures written { IfSome result (λ p. text.now ≡ request_text p.0 ++ p.1.now) }
 {
     if let Some(rest) = after(b"IN", text) {
@@ -30,8 +34,9 @@ fn plain_request_at(text: &[u8]) -> Option<(Request, &[u8])>
 }
 
 /// Returns an access to the periphery, and the text after it.
-#[tactic(auto, using(std::proofs::Common::append_assoc))]
+#[tactic(auto, unfolding(crate::specs::Requests::access_at), using(std::proofs::Common::append_assoc))]
 fn access_at(text: &[u8]) -> Option<(Request, &[u8])>
+    ensures exact { option_map (λ p. (p.0, p.1.now)) result ≡ access_at text.now }
     ensures written { IfSome result (λ p. text.now ≡ request_text p.0 ++ p.1.now) }
 {
     if let Some(rest) = after(b"RP ", text) {
@@ -50,8 +55,9 @@ fn access_at(text: &[u8]) -> Option<(Request, &[u8])>
 }
 
 /// Returns the reply to a job, and the text after it.
-#[tactic(auto, using(std::proofs::Common::append_assoc))]
+#[tactic(auto, unfolding(crate::specs::Requests::reply_at), using(std::proofs::Common::append_assoc))]
 fn reply_at(text: &[u8]) -> Option<(Request, &[u8])>
+    ensures exact { option_map (λ p. (p.0, p.1.now)) result ≡ reply_at text.now }
     ensures written { IfSome result (λ p. text.now ≡ request_text p.0 ++ p.1.now) }
 {
     if let Some(rest) = after(b"REPLY OK ", text) {
@@ -63,8 +69,9 @@ fn reply_at(text: &[u8]) -> Option<(Request, &[u8])>
 }
 
 /// Returns a request, and the text after it.
-#[tactic(auto, using(std::proofs::Common::append_assoc))]
+#[tactic(auto, unfolding(crate::specs::Requests::request_at), using(std::proofs::Common::append_assoc))]
 pub fn request_at(text: &[u8]) -> Option<(Request, &[u8])>
+    ensures exact { option_map (λ p. (p.0, p.1.now)) result ≡ request_at text.now }
     ensures written { IfSome result (λ p. text.now ≡ request_text p.0 ++ p.1.now) }
 {
     if let Some(rest) = after(b"OUT ", text) {
@@ -85,7 +92,9 @@ pub fn request_at(text: &[u8]) -> Option<(Request, &[u8])>
 }
 
 /// Returns an answer of one word, and the text after it.
+#[tactic(auto, unfolding(crate::specs::Requests::plain_answer_at))]
 fn plain_answer_at(text: &[u8]) -> Option<(Answer, &[u8])>
+    ensures exact { option_map (λ p. (p.0, p.1.now)) result ≡ plain_answer_at text.now }
     ensures written { IfSome result (λ p. text.now ≡ answer_text p.0 ++ p.1.now) }
 {
     if let Some(rest) = after(b"DONE", text) {
@@ -102,8 +111,9 @@ fn plain_answer_at(text: &[u8]) -> Option<(Answer, &[u8])>
 }
 
 /// Returns an answer with a value, and the text after it.
-#[tactic(auto, using(std::proofs::Common::append_assoc))]
+#[tactic(auto, unfolding(crate::specs::Requests::value_answer_at), using(std::proofs::Common::append_assoc))]
 fn value_answer_at(text: &[u8]) -> Option<(Answer, &[u8])>
+    ensures exact { option_map (λ p. (p.0, p.1.now)) result ≡ value_answer_at text.now }
     ensures written { IfSome result (λ p. text.now ≡ answer_text p.0 ++ p.1.now) }
 {
     if let Some(rest) = after(b"IMG ", text) {
@@ -120,8 +130,9 @@ fn value_answer_at(text: &[u8]) -> Option<(Answer, &[u8])>
 }
 
 /// Returns a job, and the text after it.
-#[tactic(auto, using(std::proofs::Common::append_assoc))]
+#[tactic(auto, unfolding(crate::specs::Requests::job_at), using(std::proofs::Common::append_assoc))]
 fn job_at(text: &[u8]) -> Option<(Answer, &[u8])>
+    ensures exact { option_map (λ p. (p.0, p.1.now)) result ≡ job_at text.now }
     ensures written { IfSome result (λ p. text.now ≡ answer_text p.0 ++ p.1.now) }
 {
     if let Some(rest) = after(b"JOB READ ", text) {
@@ -136,8 +147,9 @@ fn job_at(text: &[u8]) -> Option<(Answer, &[u8])>
 }
 
 /// Returns an alarm, and the text after it.
-#[tactic(auto, using(std::proofs::Common::append_assoc))]
+#[tactic(auto, unfolding(crate::specs::Requests::alarm_at), using(std::proofs::Common::append_assoc))]
 fn alarm_at(text: &[u8]) -> Option<(Answer, &[u8])>
+    ensures exact { option_map (λ p. (p.0, p.1.now)) result ≡ alarm_at text.now }
     ensures written { IfSome result (λ p. text.now ≡ answer_text p.0 ++ p.1.now) }
 {
     let rest = after(b"ALARM ", text)?;
@@ -148,8 +160,9 @@ fn alarm_at(text: &[u8]) -> Option<(Answer, &[u8])>
 }
 
 /// Returns the side that has come back, and the text after it.
-#[tactic(auto, using(std::proofs::Common::append_assoc))]
+#[tactic(auto, unfolding(crate::specs::Requests::back_at), using(std::proofs::Common::append_assoc))]
 fn back_at(text: &[u8]) -> Option<(Side, &[u8])>
+    ensures exact { option_map (λ p. (p.0, p.1.now)) result ≡ back_at text.now }
     ensures written { IfSome result (λ p. text.now ≡ back_text p.0 ++ p.1.now) }
 {
     let rest = after(b"BACK ", text)?;
@@ -157,8 +170,9 @@ fn back_at(text: &[u8]) -> Option<(Side, &[u8])>
 }
 
 /// Returns what became of a side or of the CPU, and the text after it.
-#[tactic(auto, using(std::proofs::Common::append_assoc))]
+#[tactic(auto, unfolding(crate::specs::Requests::state_answer_at), using(std::proofs::Common::append_assoc))]
 fn state_answer_at(text: &[u8]) -> Option<(Answer, &[u8])>
+    ensures exact { option_map (λ p. (p.0, p.1.now)) result ≡ state_answer_at text.now }
     ensures written { IfSome result (λ p. text.now ≡ answer_text p.0 ++ p.1.now) }
 {
     if let Some(((side, why), rest)) = lost_at(text) {
@@ -173,7 +187,9 @@ fn state_answer_at(text: &[u8]) -> Option<(Answer, &[u8])>
 }
 
 /// Returns an answer, and the text after it.
+#[tactic(auto, unfolding(crate::specs::Requests::answer_at))]
 pub fn answer_at(text: &[u8]) -> Option<(Answer, &[u8])>
+    ensures exact { option_map (λ p. (p.0, p.1.now)) result ≡ answer_at text.now }
     ensures written { IfSome result (λ p. text.now ≡ answer_text p.0 ++ p.1.now) }
 {
     if let Some(found) = plain_answer_at(text) {
@@ -192,8 +208,9 @@ pub fn answer_at(text: &[u8]) -> Option<(Answer, &[u8])>
 }
 
 /// Returns an event with a number, and the text after it.
-#[tactic(auto, using(std::proofs::Common::append_assoc))]
+#[tactic(auto, unfolding(crate::specs::Requests::numbered_event_at), using(std::proofs::Common::append_assoc))]
 fn numbered_event_at(text: &[u8]) -> Option<(Event, &[u8])>
+    ensures exact { option_map (λ p. (p.0, p.1.now)) result ≡ numbered_event_at text.now }
     ensures written { IfSome result (λ p. text.now ≡ event_text p.0 ++ p.1.now) }
 {
     if let Some(rest) = after(b"ERROR ", text) {
@@ -210,8 +227,9 @@ fn numbered_event_at(text: &[u8]) -> Option<(Event, &[u8])>
 }
 
 /// Returns what a diagnostic entry says, and the text after it.
-#[tactic(auto, using(std::proofs::Common::append_assoc))]
+#[tactic(auto, unfolding(crate::specs::Requests::event_at), using(std::proofs::Common::append_assoc))]
 pub fn event_at(text: &[u8]) -> Option<(Event, &[u8])>
+    ensures exact { option_map (λ p. (p.0, p.1.now)) result ≡ event_at text.now }
     ensures written { IfSome result (λ p. text.now ≡ event_text p.0 ++ p.1.now) }
 {
     if let Some(rest) = after(b"START", text) {

@@ -1,13 +1,18 @@
 //! The words of a line: sides, stop codes, widths and places.
 ghost use Rattle.std.specs.Prelude.{◌≡◌, ◌++◌, IfSome};
+ghost use Rattle.std.specs.Option.{option_map};
 ghost use Rattle.std.specs.Fmt.{decimal};
+ghost use Rattle.trace_reader.specs.Fields.{number_at};
+ghost use Rattle.trace_reader.specs.Words.{side_at, missing_ob_at, stop_at, loss_at, lost_at, width_digit_at, width_letter_at, value_at, area_at, place_at};
 ghost use Rattle.trace_reader.specs.Text.{side_text, stop_text, loss_text, lost_text, width_digit, width_letter, value_text, area_text, place_text};
 
 use crate::fields::{after, byte_at, double_at, number_at, word_value_at};
 use crate::trace::{JobArea, Loss, Place, Side, StopCode, Width};
 
 /// Returns the side of a letter, and the text after it.
+#[tactic(auto, unfolding(crate::specs::Words::side_at))]
 pub fn side_at(text: &[u8]) -> Option<(Side, &[u8])>
+    ensures exact { option_map (λ p. (p.0, p.1.now)) result ≡ side_at text.now }
     ensures written { IfSome result (λ p. text.now ≡ side_text p.0 ++ p.1.now) }
 {
     if let Some(rest) = after(b"A", text) {
@@ -18,7 +23,9 @@ pub fn side_at(text: &[u8]) -> Option<(Side, &[u8])>
 }
 
 /// Returns one of the stop codes of a missing error OB, and the text after it.
+#[tactic(auto, unfolding(crate::specs::Words::missing_ob_at))]
 fn missing_ob_at(text: &[u8]) -> Option<(StopCode, &[u8])>
+    ensures exact { option_map (λ p. (p.0, p.1.now)) result ≡ missing_ob_at text.now }
     ensures written { IfSome result (λ p. text.now ≡ stop_text p.0 ++ p.1.now) }
 {
     if let Some(rest) = after(b"NOOB121", text) {
@@ -32,7 +39,9 @@ fn missing_ob_at(text: &[u8]) -> Option<(StopCode, &[u8])>
 }
 
 /// Returns the stop code of a word, and the text after it.
+#[tactic(auto, unfolding(crate::specs::Words::stop_at))]
 pub fn stop_at(text: &[u8]) -> Option<(StopCode, &[u8])>
+    ensures exact { option_map (λ p. (p.0, p.1.now)) result ≡ stop_at text.now }
     ensures written { IfSome result (λ p. text.now ≡ stop_text p.0 ++ p.1.now) }
 {
     if let Some(rest) = after(b"CYCLE", text) {
@@ -54,7 +63,9 @@ pub fn stop_at(text: &[u8]) -> Option<(StopCode, &[u8])>
 }
 
 /// Returns why a side was lost, and the text after it.
+#[tactic(auto, unfolding(crate::specs::Words::loss_at))]
 fn loss_at(text: &[u8]) -> Option<(Loss, &[u8])>
+    ensures exact { option_map (λ p. (p.0, p.1.now)) result ≡ loss_at text.now }
     ensures written { IfSome result (λ p. text.now ≡ loss_text p.0 ++ p.1.now) }
 {
     if let Some(rest) = after(b" FAILED", text) {
@@ -65,8 +76,9 @@ fn loss_at(text: &[u8]) -> Option<(Loss, &[u8])>
 }
 
 /// Returns the side that was lost and why, after `LOST `, and the text after them.
-#[tactic(auto, using(std::proofs::Common::append_assoc))]
+#[tactic(auto, unfolding(crate::specs::Words::lost_at), using(std::proofs::Common::append_assoc))]
 pub fn lost_at(text: &[u8]) -> Option<((Side, Loss), &[u8])>
+    ensures exact { option_map (λ p. (p.0, p.1.now)) result ≡ lost_at text.now }
     ensures written { IfSome result (λ p. text.now ≡ lost_text p.0.0 p.0.1 ++ p.1.now) }
 {
     let rest = after(b"LOST ", text)?;
@@ -76,7 +88,9 @@ pub fn lost_at(text: &[u8]) -> Option<((Side, Loss), &[u8])>
 }
 
 /// Returns the width of a number of bytes, and the text after it.
+#[tactic(auto, unfolding(crate::specs::Words::width_digit_at))]
 pub fn width_digit_at(text: &[u8]) -> Option<(Width, &[u8])>
+    ensures exact { option_map (λ p. (p.0, p.1.now)) result ≡ width_digit_at text.now }
     ensures written { IfSome result (λ p. text.now ≡ width_digit p.0 ++ p.1.now) }
 {
     if let Some(rest) = after(b"1", text) {
@@ -90,7 +104,9 @@ pub fn width_digit_at(text: &[u8]) -> Option<(Width, &[u8])>
 }
 
 /// Returns the width of a letter, and the text after it.
+#[tactic(auto, unfolding(crate::specs::Words::width_letter_at))]
 fn width_letter_at(text: &[u8]) -> Option<(Width, &[u8])>
+    ensures exact { option_map (λ p. (p.0, p.1.now)) result ≡ width_letter_at text.now }
     ensures written { IfSome result (λ p. text.now ≡ width_letter p.0 ++ p.1.now) }
 {
     if let Some(rest) = after(b"B", text) {
@@ -104,7 +120,9 @@ fn width_letter_at(text: &[u8]) -> Option<(Width, &[u8])>
 }
 
 /// Returns a value of this width, and the text after it.
+#[tactic(auto, unfolding(crate::specs::Words::value_at))]
 pub fn value_at(text: &[u8], width: Width) -> Option<(u32, &[u8])>
+    ensures exact { option_map (λ p. (p.0, p.1.now)) result ≡ value_at width text.now }
     ensures written { IfSome result (λ p. text.now ≡ value_text width p.0 ++ p.1.now) }
 {
     match width {
@@ -122,6 +140,7 @@ pub fn value_at(text: &[u8], width: Width) -> Option<(u32, &[u8])>
 
 /// Returns the number of a block or of a byte, at most 65,535, and the text after it.
 pub fn address_at(text: &[u8]) -> Option<(u16, &[u8])>
+    ensures exact { option_map (λ p. (p.0, p.1.now)) result ≡ number_at 65535 text.now }
     ensures written { IfSome result (λ p. text.now ≡ decimal p.0 ++ p.1.now) }
 {
     let (number, rest) = number_at(text, 65_535)?;
@@ -130,6 +149,7 @@ pub fn address_at(text: &[u8]) -> Option<(u16, &[u8])>
 
 /// Returns a number that is at most 255, and the text after it.
 pub fn small_at(text: &[u8]) -> Option<(u8, &[u8])>
+    ensures exact { option_map (λ p. (p.0, p.1.now)) result ≡ number_at 255 text.now }
     ensures written { IfSome result (λ p. text.now ≡ decimal p.0 ++ p.1.now) }
 {
     let (number, rest) = number_at(text, 255)?;
@@ -137,8 +157,9 @@ pub fn small_at(text: &[u8]) -> Option<(u8, &[u8])>
 }
 
 /// Returns the area of a job and its width, and the text after them.
-#[tactic(auto, using(std::proofs::Common::append_assoc))]
+#[tactic(auto, unfolding(crate::specs::Words::area_at), using(std::proofs::Common::append_assoc))]
 fn area_at(text: &[u8]) -> Option<((JobArea, Width), &[u8])>
+    ensures exact { option_map (λ p. (p.0, p.1.now)) result ≡ area_at text.now }
     ensures written { IfSome result (λ p. text.now ≡ area_text p.0.0 p.0.1 ++ p.1.now) }
 {
     if let Some(rest) = after(b"M", text) {
@@ -153,8 +174,9 @@ fn area_at(text: &[u8]) -> Option<((JobArea, Width), &[u8])>
 }
 
 /// Returns where a job reads or writes, and the text after it.
-#[tactic(auto, using(std::proofs::Common::append_assoc))]
+#[tactic(auto, unfolding(crate::specs::Words::place_at), using(std::proofs::Common::append_assoc))]
 pub fn place_at(text: &[u8]) -> Option<(Place, &[u8])>
+    ensures exact { option_map (λ p. (p.0, p.1.now)) result ≡ place_at text.now }
     ensures written { IfSome result (λ p. text.now ≡ place_text p.0 ++ p.1.now) }
 {
     let ((area, width), rest) = area_at(text)?;
