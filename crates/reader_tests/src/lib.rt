@@ -7,3 +7,5 @@ mod declarations;
 mod sources;
 #[cfg(test)]
 mod statements;
+#[cfg(test)]
+mod tokens;

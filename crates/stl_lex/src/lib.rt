@@ -20,6 +20,3 @@ pub use literals::{Literal, LiteralValue, literal_of, unsigned};
 pub use numerals::{CEILING, digit_count, value_of};
 pub use piece::TokenKind;
 pub use token::{Token, Tokens};
-
-#[cfg(test)]
-mod tests;

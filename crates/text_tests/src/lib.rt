@@ -1,5 +1,7 @@
-//! Tests of the reader of traces, over whole texts.
+//! Tests of the writer and of the reader of traces, over whole texts.
 #![tactic(auto)]
 
+#[cfg(test)]
+mod printed;
 #[cfg(test)]
 mod texts;

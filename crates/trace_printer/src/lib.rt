@@ -13,6 +13,3 @@ pub use line::{LINE_ROOM, Line};
 pub use load_text::print_load;
 pub use printer::print;
 pub use writing::SinkFault;
-
-#[cfg(test)]
-mod tests;

@@ -1,110 +1,183 @@
-use crate::line::Line;
-use crate::load_text::print_load;
-use crate::printer::{print, print_all};
-use crate::tail::TailView;
-use crate::writing::SinkFault;
+//! The text of a run. Its CPU is played to the stop at which its tail is shown.
+ghost use Rattle.std.specs.Prelude.{◌≡◌, ◌∷◌, [], Some, None, IfOk, IsTrue, codes};
+ghost use Rattle.s7_events.specs.declared.diagnostics.DiagCode.TheVariants as diag;
+ghost use Rattle.mc_machine.specs.Meaning.{is_built};
+ghost use Rattle.subsystem.specs.Part.{IsOpen};
+ghost use Rattle.pair_core.specs.Tail.{note_lines, block_lines};
+
 use event_record::Record;
 use pair_core::{Ended, Mode, Shown};
 use pair_io::MemSink;
 use s7_base::{
-    Answer, Area, Ask, Blocks, CodeBlock, CodeKind, DataBlock, DiagCode, Entry, Job, JobArea, Loss,
-    Request, Side, StopCode,
+    Answer, Ask, Blocks, CodeBlock, CodeKind, DataBlock, Entry, Job, JobArea, Loss, Request, Side,
+    Statement, StopCode, fits,
 };
+use std::alloc::Global;
+use std::process::Abort;
 use std::test::Fail;
 use subsystem::Subsystem;
+use trace_printer::{SinkFault, print, print_load};
 
-/// The notes, the images, the first data blocks and the first counters of a CPU.
-#[derive(Drop)]
-struct Cpu {
-    notes: [(u64, DiagCode); 9],
-    inputs: [u8; 64],
-    outputs: [u8; 64],
-    flags: [u8; 1024],
-    blocks: [Option<[u8; 4]>; 4],
-    counters: [u16; 12],
-}
+/// What no CPU has yet in its tail: three kinds of diagnostic entries, and data blocks.
+fn the_definitions_write_what_no_cpu_has_yet()
+    ensures notes { note_lines ((150, diag.Cycle) ∷ (151, diag.Ob85 40) ∷ (152, diag.Discrep 1022) ∷ [])
+        ≡ codes "150 CYCLE\n151 OB85 40\n152 DISCREP 1022\n" }
+    ensures blocks { block_lines 0 (None ∷ Some (0 ∷ 1 ∷ 0 ∷ 5 ∷ []) ∷ None ∷ Some (0 ∷ 0 ∷ 0 ∷ 0 ∷ []) ∷ [])
+        ≡ codes "DB 1 1:01,3:05\nDB 3 -\n" }
+{}
 
-impl Cpu {
-    ghost use Rattle.std.specs.Prelude.{◌≡◌, ◌≤◌, length, slice_get};
-    ghost use Rattle.pair_core.specs.Tail.{block_by};
-
-    fn block(&self, number: u8) -> Option<[u8; 4]>
-        ensures block { result ≡ block_by (slice_get self.now.blocks number) }
-        ensures count { length self.now.blocks ≤ 256 }
-    {
-        match self.blocks.get(usize::from(number)) {
-            Some(block) => *block,
-            None => None,
-        }
+/// `L` of a constant.
+fn load(value: u32) -> Statement {
+    Statement {
+        op: 27,
+        area: 11,
+        bit: 0,
+        db: 0,
+        value,
     }
 }
 
-impl TailView for Cpu {
-    ghost tail = { λ cpu. record { notes = cpu.notes; inputs = cpu.inputs; outputs = cpu.outputs; flags = cpu.flags; blocks = cpu.blocks; counters = cpu.counters } };
-
-    fn note_count(&self) -> u32 {
-        9
-    }
-
-    fn note_at(&self, k: u32) -> Option<(u64, DiagCode)> {
-        self.notes.get(k as usize).copied()
-    }
-
-    fn image_byte(&self, area: Area, at_byte: u16) -> Option<u8> {
-        match area {
-            Area::I => self.inputs.get(usize::from(at_byte)).copied(),
-            Area::Q => self.outputs.get(usize::from(at_byte)).copied(),
-            Area::M => self.flags.get(usize::from(at_byte)).copied(),
-            Area::Db(number) => {
-                let bytes = self.block(number)?;
-                bytes.get(usize::from(at_byte)).copied()
-            }
-            _ => None,
-        }
-    }
-
-    fn block_length(&self, number: u8) -> Option<u16> {
-        self.block(number)?;
-        Some(4)
-    }
-
-    fn counter_value(&self, number: u8) -> u16 {
-        match self.counters.get(usize::from(number)) {
-            Some(value) => *value,
-            None => 0,
-        }
+/// `L IB 0`.
+fn load_input() -> Statement {
+    Statement {
+        op: 27,
+        area: 1,
+        bit: 8,
+        db: 0,
+        value: 0,
     }
 }
 
-fn make_cpu() -> Cpu {
-    let mut outputs = [0; 64];
-    outputs[0] = 0x01;
-    outputs[63] = 0xAF;
-    let mut flags = [0; 1024];
-    flags[21] = 0x03;
-    flags[1023] = 0xF0;
-    let mut counters = [0; 12];
-    counters[0] = 7;
-    counters[11] = 999;
-    let notes = [
-        (0, DiagCode::Start),
-        (4, DiagCode::LostFailed(Side::A)),
-        (5, DiagCode::LostSuspect(Side::B)),
-        (48, DiagCode::Back(Side::B)),
-        (50, DiagCode::Error(9)),
-        (150, DiagCode::Cycle),
-        (151, DiagCode::Ob85(40)),
-        (152, DiagCode::Discrep(1022)),
-        (300, DiagCode::Stop(StopCode::Cycle)),
+/// `T QB n` with area 2, `T MB n` with area 3.
+fn transfer(area: u8, value: u32) -> Statement {
+    Statement {
+        op: 28,
+        area,
+        bit: 8,
+        db: 0,
+        value,
+    }
+}
+
+/// `S C n`.
+fn set_counter(value: u32) -> Statement {
+    Statement {
+        op: 15,
+        area: 10,
+        bit: 0,
+        db: 0,
+        value,
+    }
+}
+
+/// A statement without an operand.
+fn alone(op: u16) -> Statement {
+    Statement {
+        op,
+        area: 0,
+        bit: 0,
+        db: 0,
+        value: 0,
+    }
+}
+
+/// OB1: bytes of outputs and flags, C 0 and C 11; and then `BTI` of IB 0, which is error 1 where its digit is above 9.
+fn main_program(alloc: Global) -> Result<Blocks, Fail> {
+    let statements = [
+        load(0x01),
+        transfer(2, 0),
+        load(0xAF),
+        transfer(2, 63),
+        load(0x03),
+        transfer(3, 21),
+        load(0xF0),
+        transfer(3, 1023),
+        alone(18),
+        load(0x0007),
+        set_counter(0),
+        load(0x0999),
+        set_counter(11),
+        load_input(),
+        alone(53),
     ];
-    Cpu {
-        notes,
-        inputs: [0; 64],
-        outputs,
-        flags,
-        blocks: [None, Some([0, 1, 0, 5]), None, Some([0; 4])],
-        counters,
+    let main = CodeBlock::new(CodeKind::Ob, 1, 0, Vec::from_array(alloc, statements)?);
+    match Blocks::of(vec![in alloc; main]?, Vec::new(alloc)) {
+        Some(blocks) => Ok(blocks),
+        None => Err("not well formed".into()),
     }
+}
+
+/// Gives a side in its first life an answer that fits.
+fn give(rt: &impl Abort, side: &mut Subsystem, answer: Answer, moment: u64) -> Result<(), Fail>
+    requires open { IsOpen side.old }
+    requires built { IsTrue (is_built answer) }
+    ensures { IsOpen side.new }
+{
+    assert!(rt; side.can_ask());
+    let request = side.ask();
+    assert!(rt; fits(&request, &answer));
+    match side.lives() {
+        [life] if life.next < 1000 => {}
+        _ => return Err("more than one life".into()),
+    }
+    side.take(&answer, moment);
+    Ok(())
+}
+
+/// A side that was loaded.
+fn loaded(alloc: Global, blocks: &Blocks) -> Result<Subsystem, Fail>
+    ensures { IfOk result IsOpen }
+{
+    let Ok(mut side) = Subsystem::new(alloc) else {
+        return Err("no memory".into());
+    };
+    if !blocks.is_playable() {
+        return Err("not played".into());
+    }
+    if side.load(alloc, blocks).is_err() {
+        return Err("no memory".into());
+    }
+    Ok(side)
+}
+
+/// A side that asked to stop at moment 51, and was stopped at moment 300.
+fn stopped(rt: &impl Abort, alloc: Global) -> Result<Subsystem, Fail>
+    ensures { IfOk result IsOpen }
+{
+    let mut side = loaded(alloc, &main_program(alloc)?)?;
+    give(rt, &mut side, Answer::Done, 0)?;
+    give(rt, &mut side, Answer::Image([0; 64]), 1)?;
+    let failed = Answer::Lost {
+        side: Side::A,
+        why: Loss::Failed,
+    };
+    give(rt, &mut side, failed, 4)?;
+    let suspect = Answer::Lost {
+        side: Side::B,
+        why: Loss::Suspect,
+    };
+    give(rt, &mut side, suspect, 5)?;
+    give(rt, &mut side, Answer::Back { side: Side::B }, 48)?;
+    give(rt, &mut side, Answer::Go, 49)?;
+    give(rt, &mut side, Answer::Done, 50)?;
+    let mut image = [0; 64];
+    image[0] = 0x0A;
+    give(rt, &mut side, Answer::Image(image), 51)?;
+    give(rt, &mut side, Answer::CpuStop(StopCode::Cycle), 300)?;
+    Ok(side)
+}
+
+/// A record of these entries.
+fn record_of(alloc: Global, entries: &[Entry]) -> Result<Record, Fail> {
+    let Ok(mut record) = Record::with_room(alloc, 30) else {
+        return Err("no memory".into());
+    };
+    for entry in entries {
+        if record.len() < record.room() {
+            record.append(*entry);
+        }
+    }
+    Ok(record)
 }
 
 fn entry(prio: u8, ask: Ask, answer: Answer) -> Entry {
@@ -155,9 +228,8 @@ const TEXT: &[u8] = b"TRACE 1 PAIR\n\
 27 30 STOP LOCAL = DONE\n\
 28 30 STOP INERROR = DONE\n\
 29 1 TICK = CPUSTOP CYCLE\n\
-DIAG 9\n0 START\n4 LOST A FAILED\n5 LOST B SUSPECT\n48 BACK B\n50 ERROR 9\n150 CYCLE\n151 OB85 40\n\
-152 DISCREP 1022\n300 STOP CYCLE\n\
-I -\nQ 0:01,63:AF\nM 21:03,1023:F0\nDB 1 1:01,3:05\nDB 3 -\nC 0 7\nC 11 999\n\
+DIAG 6\n0 START\n4 LOST A FAILED\n5 LOST B SUSPECT\n48 BACK B\n51 ERROR 1\n300 STOP CYCLE\n\
+I 0:0A\nQ 0:01,63:AF\nM 21:03,1023:F0\nC 0 7\nC 11 999\n\
 STOP 30 CYCLE\n";
 
 #[test]
@@ -215,32 +287,36 @@ fn every_form_of_line_is_printed(rt: HostRuntime) -> Result<(), Fail> {
         entry(30, Ask::Stop(StopCode::InError), Answer::Done),
         entry(1, Ask::Tick, Answer::CpuStop(StopCode::Cycle)),
     ];
-    let shown = [(0, Side::A), (0, Side::B), (10, Side::B)];
+    let record = record_of(alloc, &entries)?;
+    let Ok(mut shown) = Shown::with_room(alloc, 3) else {
+        return Err("no memory".into());
+    };
+    shown.add(0, Side::A);
+    shown.add(0, Side::B);
+    shown.add(10, Side::B);
     let ended = Ended::Stop(StopCode::Cycle);
+    let side = stopped(&rt, alloc)?;
     let mut sink = MemSink::new(alloc, 4000, Vec::new(alloc))?;
-    let printed = print_all(
-        &mut sink,
-        &mut Line::new(),
-        Mode::Pair,
-        &entries,
-        &shown,
-        ended,
-        Some(&make_cpu()),
-    );
+    let printed = print(&mut sink, Mode::Pair, &record, &shown, &ended, Some(&side));
     assert_eq!(rt; printed, Ok(()));
     assert_eq!(rt; sink.written(), TEXT);
     Ok(())
 }
 
 const TAIL: &[u8] =
-    b"DIAG 9\n0 START\n4 LOST A FAILED\n5 LOST B SUSPECT\n48 BACK B\n50 ERROR 9\n150 CYCLE\n\
-151 OB85 40\n152 DISCREP 1022\n300 STOP CYCLE\nI -\nQ 0:01,63:AF\nM 21:03,1023:F0\nDB 1 1:01,3:05\nDB 3 -\nC 0 7\nC 11 999\nEND 1\n";
+    b"DIAG 6\n0 START\n4 LOST A FAILED\n5 LOST B SUSPECT\n48 BACK B\n51 ERROR 1\n300 STOP CYCLE\n\
+I 0:0A\nQ 0:01,63:AF\nM 21:03,1023:F0\nC 0 7\nC 11 999\nEND 1\n";
 
 #[test]
 fn runs_end_as_they_ended(rt: HostRuntime) -> Result<(), Fail> {
     let alloc = rt.alloc();
     let entries = [entry(1, Ask::Outputs([0; 64]), Answer::Done)];
-    let shown = [(0, Side::A)];
+    let record = record_of(alloc, &entries)?;
+    let Ok(mut shown) = Shown::with_room(alloc, 1) else {
+        return Err("no memory".into());
+    };
+    shown.add(0, Side::A);
+    let side = stopped(&rt, alloc)?;
     let cases: [(Mode, Ended, Option<u64>, Result<(), SinkFault>, &[u8]); 4] = [
         (Mode::TailOnly, Ended::End, None, Ok(()), TAIL),
         (
@@ -271,15 +347,7 @@ fn runs_end_as_they_ended(rt: HostRuntime) -> Result<(), Fail> {
             failing.push(number)?;
         }
         let mut sink = MemSink::new(alloc, 4000, failing)?;
-        let printed = print_all(
-            &mut sink,
-            &mut Line::new(),
-            mode,
-            &entries,
-            &shown,
-            ended,
-            Some(&make_cpu()),
-        );
+        let printed = print(&mut sink, mode, &record, &shown, &ended, Some(&side));
         assert_eq!(rt; printed, answer);
         assert_eq!(rt; sink.written(), text);
     }
@@ -314,17 +382,12 @@ fn a_side_shows_its_tail(rt: HostRuntime) -> Result<(), Fail> {
     let Some(blocks) = Blocks::of(vec![in alloc; main]?, Vec::new(alloc)) else {
         return Err("not well formed".into());
     };
-    let (Ok(mut side), Ok(mut record), Ok(mut shown)) = (
-        Subsystem::new(alloc),
-        Record::with_room(alloc, 1),
-        Shown::with_room(alloc, 1),
-    ) else {
+    let side = loaded(alloc, &blocks)?;
+    let entries = [entry(1, Ask::Outputs([0; 64]), Answer::Done)];
+    let record = record_of(alloc, &entries)?;
+    let Ok(mut shown) = Shown::with_room(alloc, 1) else {
         return Err("no memory".into());
     };
-    if side.load(alloc, &blocks).is_err() {
-        return Err("no memory".into());
-    }
-    record.append(entry(1, Ask::Outputs([0; 64]), Answer::Done));
     shown.add(0, Side::A);
     let mut sink = MemSink::new(alloc, 200, Vec::new(alloc))?;
     let printed = print(

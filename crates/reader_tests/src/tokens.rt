@@ -1,6 +1,6 @@
-use super::*;
 use std::alloc::Global;
 use std::test::Fail;
+use stl_lex::{LexError, LoadFault, Token, TokenKind, tokens};
 
 fn letter(kind: TokenKind) -> u8 {
     match kind {
