@@ -13,6 +13,3 @@ pub use accus::Accus;
 pub use bcd::BadBcd;
 pub use instruction_set::{Move, Num, Shift, Word};
 pub use laws::result_in_range_is_true;
-
-#[cfg(test)]
-mod tests;

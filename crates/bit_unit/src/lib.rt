@@ -8,6 +8,3 @@ mod unit;
 pub use group::Group;
 pub use laws::{expression_leaves_its_value, group_is_the_check_of_its_value};
 pub use unit::{BitFault, BitUnit};
-
-#[cfg(test)]
-mod tests;

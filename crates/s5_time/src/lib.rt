@@ -6,6 +6,3 @@ mod duration;
 
 pub use bcd::{BadS5, bcd3, read_bcd3};
 pub use duration::{S5, from_millis, millis, read, write};
-
-#[cfg(test)]
-mod tests;

@@ -7,6 +7,3 @@ mod status;
 
 pub use instruction_set::{Check, Cmp, Jump};
 pub use status::StatusWord;
-
-#[cfg(test)]
-mod tests;

@@ -7,6 +7,3 @@ mod timer;
 
 pub use instruction_set::TimerKind;
 pub use timer::Timer;
-
-#[cfg(test)]
-mod tests;

@@ -1,4 +1,4 @@
-use super::{Accus, BadBcd, Move, Num, Shift, Word};
+use accumulators::{Accus, BadBcd, Move, Num, Shift, Word};
 use status_word::StatusWord;
 
 /// The accumulators with these values.

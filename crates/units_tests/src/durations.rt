@@ -1,4 +1,4 @@
-use super::*;
+use s5_time::*;
 
 #[test]
 fn words_and_milliseconds(rt: HostRuntime) {

@@ -1,6 +1,6 @@
-use super::TimerKind::*;
-use super::*;
 use s5_time::S5;
+use timers::TimerKind::*;
+use timers::*;
 
 /// An instruction, its RLO and for a start its moment.
 enum Event {

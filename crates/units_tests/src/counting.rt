@@ -1,4 +1,4 @@
-use super::*;
+use counters::*;
 use s5_time::{bcd3, read_bcd3};
 
 /// An instruction and its RLO; S has a word of three BCD digits.

@@ -1,4 +1,4 @@
-use super::{Check, Cmp, Jump, StatusWord};
+use status_word::{Check, Cmp, Jump, StatusWord};
 
 /// A statement as the status word sees it.
 #[derive(Clone, Copy, Debug)]

@@ -1,4 +1,4 @@
-use super::{BitFault, BitUnit};
+use bit_unit::{BitFault, BitUnit};
 use status_word::{Check, StatusWord};
 use std::test::Fail;
 
