@@ -11,6 +11,3 @@ pub use alarm::{DueAlarm, Source};
 pub use law::{answered_once, due_by_period};
 pub use schedule::redundancy_info;
 pub use waiting::Waiting;
-
-#[cfg(test)]
-mod tests;

@@ -6,6 +6,3 @@ mod note;
 
 pub use buffer::{Diag, KEPT_NOTES};
 pub use note::Note;
-
-#[cfg(test)]
-mod tests;

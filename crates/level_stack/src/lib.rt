@@ -12,6 +12,3 @@ pub use information::start_info;
 pub use laws::a_caller_keeps_its_local_bytes;
 pub use level::{DEPTH, LOCAL_BYTES, LevelFault};
 pub use levels::{LEVELS, Levels};
-
-#[cfg(test)]
-mod tests;

@@ -6,6 +6,3 @@ mod place;
 
 pub use parcel::Parcel;
 pub use place::{Busy, Empty, Link};
-
-#[cfg(test)]
-mod tests;

@@ -6,6 +6,3 @@ mod writing;
 
 pub use reading::{a_statement_lies_at_its_place, an_image_has_one_program, decode, statement_at};
 pub use writing::encode;
-
-#[cfg(test)]
-mod tests;

@@ -8,6 +8,3 @@ mod source;
 
 pub use script::make_script;
 pub use source::make_source;
-
-#[cfg(test)]
-mod tests;

@@ -4,6 +4,3 @@
 mod pool;
 
 pub use pool::{Contents, PAGE_BYTES, Page, Pool};
-
-#[cfg(test)]
-mod tests;

@@ -8,6 +8,3 @@ mod view;
 pub use lock::Taken;
 pub use seat::{PairLock, Seat};
 pub use view::View;
-
-#[cfg(test)]
-mod tests;

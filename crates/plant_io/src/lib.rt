@@ -9,6 +9,3 @@ mod value;
 pub use law::lasting_difference;
 pub use redundant::Redundant;
 pub use value::{reachable, value_at};
-
-#[cfg(test)]
-mod tests;

@@ -20,6 +20,3 @@ pub use plan::{Event, Module, ModuleKind, What};
 pub use script::Script;
 pub use script_error::{ScriptError, ScriptFault};
 pub use script_reader::read_script;
-
-#[cfg(test)]
-mod tests;

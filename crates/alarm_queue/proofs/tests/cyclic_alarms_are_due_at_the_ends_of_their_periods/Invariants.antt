@@ -1,5 +1,0 @@
-use Rattle.std.proofs.Common.{◌≡◌}
-use Rattle.alarm_queue.proofs.tests.cyclic_alarms_are_due_at_the_ends_of_their_periods.Given as goal
-
-abbrev pub invariant-loop-k : goal.invariant-loop-k
-invariant-loop-k g l = l.waiting.moment ≡ l.k

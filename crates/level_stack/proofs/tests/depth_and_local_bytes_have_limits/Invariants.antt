@@ -1,6 +1,0 @@
--- A level stays there.
-use Rattle.std.proofs.Common.{◌≡◌, length}
-use Rattle.level_stack.proofs.tests.depth_and_local_bytes_have_limits.Given as goal
-
-abbrev pub invariant-loop : goal.invariant-loop
-invariant-loop g l = length l.levels ≡ 1

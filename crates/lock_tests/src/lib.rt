@@ -1,0 +1,5 @@
+//! Tests of the lock of two seats.
+#![tactic(auto)]
+
+#[cfg(test)]
+mod notes;
