@@ -7,10 +7,20 @@ say() {
     echo "$name: $*" >&2
 }
 
+# the folders of code, definitions and proofs of the program's crates
+sources_of_program() {
+    local crate
+    while IFS=: read -r crate _; do
+        printf '%s\n' "$top/crates/$crate"/{src,specs,proofs}
+    done <<<"$(crates_of_program)"
+}
+
 # the program is not there, or a file that it is made from is newer
 is_stale() {
+    local -a sources
     [ -x "$program" ] && [ -e "$built" ] || return 0
-    [ -n "$(find "$top/crates.txt" "$top"/crates/*/src "$top"/crates/*/specs "$top"/crates/*/proofs -newer "$built" -type f -print -quit 2>/dev/null)" ]
+    mapfile -t sources <<<"$(sources_of_program)"
+    [ -n "$(find "$top/crates.txt" "${sources[@]}" -newer "$built" -type f -print -quit 2>/dev/null)" ]
 }
 
 needs_kit() {
@@ -54,55 +64,118 @@ show_progress() {
         "$name" "$1" "$2" "$3" $((SECONDS / 60)) $((SECONDS % 60)) >&2
 }
 
+# the crates that are being proved, by the number of their process, which leads a group of its own
+declare -A proving=()
+
+# ends what this build began
+stop_proving() {
+    local pid
+    for pid in "${!proving[@]}"; do
+        kill -- "-$pid" 2>/dev/null || kill "$pid" 2>/dev/null
+    done
+    [ -t 2 ] && echo >&2
+}
+
+# what an interrupted build leaves: no process, and each crate that was done
+interrupted() {
+    stop_proving
+    say "interrupted; what was proved is kept, and the next call goes on from there"
+    exit 70
+}
+
+# begins `rt COMMAND` in a crate, and writes what it says to the log of the crate
+start_crate() {
+    (cd "$top/crates/$1" && exec setsid rt "$2") </dev/null >"$logs/$1.log" 2>&1 &
+    proving[$!]=$1
+}
+
+# Waits until a crate is done, whose name is then in `ended`; fails where it was not proved. On a terminal the time goes on
+# each second meanwhile.
+next_ended() {
+    local pid status
+    while true; do
+        if [ -t 2 ] && [ -z "$clock" ]; then
+            sleep 1 &
+            clock=$!
+        fi
+        wait -n -p pid
+        status=$?
+        [ -n "${proving[$pid]-}" ] && break
+        [ "$pid" = "$clock" ] && clock=
+        show_progress "$@"
+    done
+    ended=${proving[$pid]}
+    unset "proving[$pid]"
+    return $status
+}
+
+# all crates that this one uses are done
+is_ready() {
+    local used
+    for used in ${uses[$1]}; do
+        [ "${state[$used]:-done}" = done ] || return 1
+    done
+}
+
+# Begins each crate that waits and is ready, while fewer than the limit are being proved.
+start_ready() {
+    local crate
+    for crate in "${order[@]}"; do
+        [ "${#proving[@]}" -lt "$limit" ] || return 0
+        if [ "${state[$crate]}" = waits ] && is_ready "$crate"; then
+            state[$crate]=runs
+            last=$crate
+            start_crate "$crate" lib
+        fi
+    done
+}
+
+# Builds the program over its proved crates. The build runs it once, with no arguments, which it answers with its usage.
+build_top() {
+    start_crate "$name" run
+    next_ended "$total" "$total" "$name"
+    grep -q "^rt: running out/$name" "$logs/$name.log"
+}
+
 # Proves the crates below the program, each when those that it uses are done, and then the program. What was done stays,
 # so that an interrupted build goes on where it was.
 build_program() {
-    local logs=$top/out/build limit total=0 done_count=0 running=0 pid crate used ready
-    local -A uses state of_pid
-    local -a order
+    local logs=$top/out/build limit total done_count=0 clock='' ended last crate used
+    local -A uses=() state=()
+    local -a order=()
     limit=$(crates_at_once)
     [ "$(free_memory)" -lt 4 ] && say "less than 4 gigabytes of memory are free; proving may fail or take long"
     mkdir -p "$logs" "$top/crates/$name/out"
     touch "$built.now"
     while IFS=: read -r crate used; do
+        [ "$crate" = "$name" ] && continue
         order+=("$crate")
         uses[$crate]=$used
         state[$crate]=waits
-    done < <(crates_of_program)
-    total=${#order[@]}
+    done <<<"$(crates_of_program)"
+    total=$((${#order[@]} + 1))
     SECONDS=0
+    trap interrupted INT TERM HUP
     say "proving and building the program, $total crates, $limit at once; README tells how long that takes the first time"
-    while [ "$done_count" -lt $((total - 1)) ]; do
-        for crate in "${order[@]}"; do
-            [ "$crate" != "$name" ] && [ "${state[$crate]}" = waits ] && [ "$running" -lt "$limit" ] || continue
-            ready=yes
-            for used in ${uses[$crate]}; do
-                [ "${state[$used]:-done}" = done ] || ready=no
-            done
-            [ $ready = yes ] || continue
-            (cd "$top/crates/$crate" && exec rt lib) >"$logs/$crate.log" 2>&1 &
-            of_pid[$!]=$crate
-            state[$crate]=runs
-            running=$((running + 1))
-            show_progress $((done_count + 1)) "$total" "$crate"
-        done
-        wait -n -p pid || {
-            say "crate ${of_pid[$pid]} could not be proved; see $logs/${of_pid[$pid]}.log"
+    while [ "$done_count" -lt "${#order[@]}" ]; do
+        start_ready
+        show_progress $((done_count + 1)) "$total" "$last"
+        if ! next_ended $((done_count + 1)) "$total" "$last"; then
+            stop_proving
+            say "crate $ended could not be proved; see $logs/$ended.log"
             return 1
-        }
-        state[${of_pid[$pid]}]=done
+        fi
+        state[$ended]=done
         done_count=$((done_count + 1))
-        running=$((running - 1))
-        show_progress "$done_count" "$total" "${of_pid[$pid]}"
     done
     show_progress "$total" "$total" "$name"
-    # the build runs the program once, with no arguments, which it answers with its usage
-    (cd "$top/crates/$name" && rt run) >"$logs/$name.log" 2>&1
-    [ -t 2 ] && echo >&2
-    if ! grep -q "^rt: running out/$name" "$logs/$name.log"; then
+    if ! build_top; then
+        stop_proving
         say "the program could not be built; see $logs/$name.log"
         return 1
     fi
+    trap - INT TERM HUP
+    [ -t 2 ] && echo >&2
     mv "$built.now" "$built"
 }
 

@@ -1,34 +1,94 @@
 #!/usr/bin/env bash
-# Runs each command line of the documents that names an example, as it stands there, and compares what it writes with the text
-# that lies beside the example. The last line is `N the same, M different`.
+# Runs each command line of README.md, docs/ and examples/ as it stands there, and compares what it writes with the text
+# that lies beside the example, or that the page says. The last line is `N the same, M different`; the status is 0 where
+# none differs.
+#
+#   tools/commands.sh                              runs ./s7h and ./trace_chart, which prove and build the programs first
+#   S7H=PATH TRACE_CHART=PATH tools/commands.sh    runs these programs in their place; `--look` is run by ./s7h always
+#   tools/commands.sh --list                       lists the command lines, and runs nothing
 cd "$(dirname "$(readlink -f "${BASH_SOURCE[0]}")")/.." || exit 1
+pages=(README.md tools/help docs/*.md examples/*/README.md bench/README.md)
 
-# the text that a command writes, where it lies beside its example
-text_of() {
-    local folder file=trace
+# the command lines of the pages: those of indented lines and of backticks that begin with a program of this repository or
+# with awk. A word in capital letters stands for an argument, so such a line is a form and no command.
+command_lines() {
+    {
+        sed -nE 's/^( {2}| {4})(\.\/(s7h|trace_chart) .*|awk .*)$/\2/p' "${pages[@]}"
+        grep -ohE '`(\./)?(s7h|trace_chart) [^`]+`' "${pages[@]}" | tr -d '`'
+    } | sed -E 's/   .*//; s/ +$//; s/^trace_chart /.\/trace_chart /' | grep -vE ' [A-Z]{3,}( |$)' | grep -vE '^s7h ' | sort -u
+}
+
+# the lines that the page of this example says the command writes, where no file has them
+said_of() {
+    tr '\n' ' ' <"$2/README.md" | grep -oF "\`$1\` writes \`" >/dev/null || return 1
+    tr '\n' ' ' <"$2/README.md" | awk -v command="\`$1\` writes " '{ print substr($0, index($0, command) + length(command)) }' |
+        grep -oE '^`[^`]*`( and `[^`]*`)*' | grep -oE '`[^`]*`' | tr -d '`'
+}
+
+# the first cells of the table of this page that begin with a number
+rows_of() {
+    grep -oE '^\| `[0-9][^`]*` ' "$1/README.md" | sed -E 's/^\| `(.*)` $/\1/'
+}
+
+# the text that a command has to write
+expected() {
+    local folder=
     folder=$(grep -oE 'examples/[a-z0-9-]+' <<<"$1" | head -1)
-    [[ $1 == *" load "* ]] && file=blocks
-    [[ $1 == *" connect "* ]] && file=text
-    [ -f "$folder/$file" ] && echo "$folder/$file"
+    case $1 in
+        "./s7h --help") cat tools/help ;;
+        awk\ *) rows_of "$folder" ;;
+        ./trace_chart\ examples/*) cat "$folder/chart.svg" ;;
+        *" load "*) cat "$folder/blocks" 2>/dev/null || said_of "$1" "$folder" ;;
+        *" connect "*) cat "$folder/text" ;;
+        *" solo "* | *" turns "*) cat "$folder/trace" ;;
+        *) return 1 ;;
+    esac
 }
 
-# the command ends with status 0, and writes the text that lies beside its example, if there is one
-is_as_stored() {
-    local written stored
-    written=$(bash -c "$1" 2>/dev/null) || return 1
-    stored=$(text_of "$1") || return 0
-    [ "$written" = "$(cat "$stored")" ]
+# the command, with the programs that the caller named
+with_programs() {
+    case $1 in
+        "./s7h --"*) echo "$1" ;;
+        ./s7h\ *) echo "${S7H:-./s7h}${1#./s7h}" ;;
+        ./trace_chart\ *) echo "${TRACE_CHART:-./trace_chart}${1#./trace_chart}" ;;
+        *) echo "$1" ;;
+    esac
 }
 
+# says how the command fared: it has to end with status 0, and to write what is expected, byte for byte
+run_line() {
+    local folder=$1 line=$2 status
+    if ! expected "$line" >"$folder/expected" || [ ! -s "$folder/expected" ]; then
+        echo "no text to compare with: $line"
+        return 1
+    fi
+    bash -c "$(with_programs "$line")" >"$folder/written" 2>"$folder/messages"
+    status=$?
+    if [ $status -ne 0 ]; then
+        echo "status $status: $line"
+        tail -1 "$folder/messages"
+        return 1
+    fi
+    cmp -s "$folder/expected" "$folder/written" && return 0
+    echo "different: $line"
+    diff "$folder/expected" "$folder/written" | head -3
+    return 1
+}
+
+if [ "${1-}" = --list ]; then
+    command_lines
+    exit 0
+fi
+folder=$(mktemp -d)
+trap 'rm -rf "$folder"' EXIT
 same=0
 different=0
 while read -r line; do
-    if is_as_stored "$line"; then
+    if run_line "$folder" "$line" <&-; then
         same=$((same + 1))
     else
         different=$((different + 1))
-        echo "different: $line"
     fi
-done < <(grep -ohE '\./s7h [^`|<]*examples/[^`|<]*' README.md tools/help docs/*.md examples/*/README.md | sed 's/ *$//' | sort -u)
+done < <(command_lines)
 echo "$same the same, $different different"
-[ "$different" -eq 0 ]
+[ "$same" -gt 0 ] && [ "$different" -eq 0 ]
