@@ -27,7 +27,7 @@ use Rattle.pair_core.specs.Played.{answers_of, IsSideOf}
 use Rattle.pair_core.specs.World.{Log, World, part, standing_in, is_open, is_down, is_behind, ended}
 use Rattle.pair_core.specs.Finished.{ended_by}
 use Rattle.pair_core.specs.Places.{lives_of, StandsAfter, IsAt}
-use Rattle.pair_core.specs.Text.{HasTail}
+use Rattle.pair_core.specs.Endings.{HasTail}
 use Rattle.pair_core.specs.Good.{GoodLog, IsSameSide, Good}
 use Rattle.pair_core.proofs.Answers.{comes_back, answer_kind, kind_stays, kind_lost}
 use Rattle.pair_core.proofs.Losses.{not_lost, ran_first}

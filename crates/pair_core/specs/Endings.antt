@@ -66,3 +66,11 @@ IsShown p es (Stop code) shown = shown ≡ shown_of p es
 IsShown p es NoneLeft shown = shown ≡ shown_of p es
 IsShown p es Spent shown = IsPrefix (shown_of p (take (length es - 1) es)) shown × IsPrefix shown (shown_of p es)
 IsShown p es NotPlayed shown = ⊥
+
+-- a run has a tail where the record ended or the CPU stopped
+abbrev pub HasTail : Ended → Type 0
+HasTail End = Unit {0}
+HasTail (Stop code) = Unit {0}
+HasTail NoneLeft = ⊥
+HasTail Spent = ⊥
+HasTail NotPlayed = ⊥

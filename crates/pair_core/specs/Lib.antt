@@ -1,11 +1,8 @@
-pub mod CpuTail
 pub mod Cuts
 pub mod CutsKept
 pub mod Endings
-pub mod EntryText
 pub mod Finished
 pub mod Good
-pub mod Image
 pub mod Kept
 pub mod Lawful
 pub mod Ledger
@@ -21,8 +18,6 @@ pub mod Showings
 pub mod Sides
 pub mod Stops
 pub mod SystemStates
-pub mod Tail
-pub mod Text
 pub mod Turns
 pub mod Views
 pub mod World

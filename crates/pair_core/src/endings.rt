@@ -1,4 +1,4 @@
-//! How a run ended, how its text is written, and what state the pair is in.
+//! How a run ended, and what state the pair is in.
 
 use s7_base::StopCode;
 
@@ -15,17 +15,6 @@ pub enum Ended {
     Spent,
     /// Nothing was played.
     NotPlayed,
-}
-
-/// What is written of a run.
-#[derive(Clone, Copy, Debug, PartialEq, Eq)]
-pub enum Mode {
-    /// The text of one side that ran alone.
-    Solo,
-    /// The text of a pair.
-    Pair,
-    /// The tail and the last line alone.
-    TailOnly,
 }
 
 /// The state of the pair.

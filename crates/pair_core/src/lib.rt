@@ -15,7 +15,7 @@ mod standing;
 mod state;
 mod turns;
 
-pub use endings::{Ended, Mode, SystemState};
+pub use endings::{Ended, SystemState};
 pub use laws::{asking_stays, begins, one_begins};
 pub use pair::Pair;
 pub use showings::Shown;

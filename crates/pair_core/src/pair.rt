@@ -16,7 +16,7 @@ ghost use Rattle.s7_events.specs.declared.entry.Side.TheVariants.{A};
 ghost use Rattle.pair_core.specs.declared.endings.Ended.{Ended};
 ghost use Rattle.pair_core.specs.declared.turns.Turn.TheVariants as turns;
 ghost use Rattle.subsystem.specs.Part.{Part};
-ghost use Rattle.pair_core.specs.Text.{HasTail};
+ghost use Rattle.pair_core.specs.Endings.{HasTail};
 
 use crate::cuts::Cuts;
 use crate::own::Own;

@@ -8,7 +8,7 @@ use Rattle.mc_machine.specs.Meaning.{State}
 use Rattle.mc_machine.specs.Stands.{Running, Shows, Stands, IsRunning, CanAsk, CpuWaits, CpuStopped}
 use Rattle.subsystem.specs.Part.{Part}
 use Rattle.pair_core.specs.declared.own.Own.{Own}
-use Rattle.pair_core.specs.CpuTail.{tail_in, tail_of, tail_of_state}
+use Rattle.trace_text.specs.CpuTail.{tail_in, tail_of, tail_of_state}
 use Rattle.pair_core.specs.Places.{IsAt, AskedStands}
 use Rattle.pair_core.specs.Played.{answers_of}
 use Rattle.pair_top.specs.Playing.{ComesTo, IsBrought}

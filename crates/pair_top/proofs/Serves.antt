@@ -6,9 +6,9 @@ use Rattle.pair_top.specs.declared.faults.Fault.{Fault}
 use Rattle.pair_top.specs.declared.faults.Fault.TheVariants.{Usage, FileFault, TooLong, SourceFault, ScriptFault, SinkFault, NoMemory, Differs}
 use Rattle.subsystem.specs.Part.{Part}
 use Rattle.plant_script.specs.Plan.{Plan}
-use Rattle.pair_core.specs.Tail.{Tail}
-use Rattle.pair_core.specs.CpuTail.{tail_of}
-use Rattle.pair_core.specs.Text.{HasTail}
+use Rattle.trace_text.specs.Tail.{Tail}
+use Rattle.trace_text.specs.CpuTail.{tail_of}
+use Rattle.pair_core.specs.Endings.{HasTail}
 use Rattle.pair_core.specs.Setup.{Setup}
 use Rattle.pair_core.specs.World.{World, first_world, play}
 use Rattle.pair_top.specs.Reading.{File}

@@ -3,8 +3,8 @@ use Rattle.std.specs.Prelude.{ℕ, ◌+◌, ◌*◌, Bool, true, false, List, re
 use Rattle.s7_events.specs.declared.entry.Side.{Side}
 use Rattle.s7_events.specs.declared.entry.Side.TheVariants.{A}
 use Rattle.plant_script.specs.Plan.{Plan}
-use Rattle.pair_core.specs.declared.endings.Mode.{Mode}
-use Rattle.pair_core.specs.declared.endings.Mode.TheVariants.{Solo, Pair}
+use Rattle.trace_text.specs.declared.mode.Mode.{Mode}
+use Rattle.trace_text.specs.declared.mode.Mode.TheVariants.{Solo, Pair}
 
 -- how is played: side A alone to the end of the run, or both sides by these visits
 pub data Manner : Type 0 where

@@ -10,8 +10,8 @@ use Rattle.mc_machine.specs.Meaning.{State, Waits, Stopped, std}
 use Rattle.subsystem.specs.Part.{Part, IsOpen}
 use Rattle.pair_core.specs.declared.own.Own.{Own}
 use Rattle.pair_core.specs.Played.{answers_of}
-use Rattle.pair_core.specs.CpuTail.{tail_of, tail_of_state}
-use Rattle.pair_core.specs.Tail.{Tail}
+use Rattle.trace_text.specs.CpuTail.{tail_of, tail_of_state}
+use Rattle.trace_text.specs.Tail.{Tail}
 use Rattle.pair_core.specs.Places.{StandsAfter, IsAt}
 use Rattle.pair_core.specs.Setup.{Setup}
 use Rattle.pair_core.specs.World.{World, Game, part, play}

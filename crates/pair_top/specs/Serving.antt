@@ -22,9 +22,10 @@ use Rattle.stl_lex.specs.declared.fault.LoadFault.{LoadFault}
 use Rattle.block_loader.specs.Load.{meaning_of}
 use Rattle.plant_script.specs.declared.script_error.ScriptFault as scripts
 use Rattle.plant_script.specs.SecondPass.{script_of}
-use Rattle.pair_core.specs.CpuTail.{tail_of}
-use Rattle.pair_core.specs.Tail.{Tail}
-use Rattle.pair_core.specs.Text.{HasTail, text}
+use Rattle.trace_text.specs.CpuTail.{tail_of}
+use Rattle.trace_text.specs.Tail.{Tail}
+use Rattle.pair_core.specs.Endings.{HasTail}
+use Rattle.trace_text.specs.Text.{text}
 use Rattle.pair_top.specs.Orders.{Manner, is_alone, visits_for, mode_for}
 use Rattle.pair_top.specs.Playing.{ComesTo}
 

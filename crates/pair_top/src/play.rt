@@ -8,7 +8,7 @@ ghost use Rattle.pair_core.specs.World.{ended, play};
 ghost use Rattle.pair_core.specs.Finished.{MayEnd};
 ghost use Rattle.pair_core.specs.Places.{IsAt};
 ghost use Rattle.pair_core.specs.Progress.{IsAlone};
-ghost use Rattle.pair_core.specs.Text.{HasTail};
+ghost use Rattle.pair_core.specs.Endings.{HasTail};
 ghost use Rattle.pair_top.specs.Pattern.{sides_of, repeated, visits_of};
 ghost use Rattle.pair_top.specs.PatternView.{sides_in};
 ghost use Rattle.pair_top.specs.Orders.{is_alone, visits_for, mode_for};
@@ -18,9 +18,10 @@ ghost use Rattle.pair_top.specs.Serving.{IsFinished, ComesToTail, account_of};
 
 use crate::pattern::{first_piece, part_from, side_from};
 use event_record::Record;
-use pair_core::{Ended, Mode, Pair, Shown, asking_stays};
+use pair_core::{Ended, Pair, Shown, asking_stays};
 use s7_base::Side;
 use subsystem::Subsystem;
+use trace_text::Mode;
 
 /// How a pair is played.
 #[derive(Clone, Copy)]

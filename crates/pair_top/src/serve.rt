@@ -3,11 +3,12 @@ ghost use Rattle.std.specs.Prelude.{◌≡◌, ◌≤◌, ◌↔◌, ℕ, List, 
 ghost use Rattle.s7_base.specs.Blocks.{IsPlayable};
 ghost use Rattle.plant_script.specs.Plan.{first_alarm_or_job};
 ghost use Rattle.subsystem.specs.Part.{IsNew, IsOpen};
-ghost use Rattle.pair_core.specs.declared.endings.Mode.{Mode};
+ghost use Rattle.trace_text.specs.declared.mode.Mode.{Mode};
 ghost use Rattle.pair_core.specs.World.{first_world, play};
 ghost use Rattle.pair_core.specs.Progress.{IsAlone};
-ghost use Rattle.pair_core.specs.CpuTail.{tail_of};
-ghost use Rattle.pair_core.specs.Text.{HasTail, text};
+ghost use Rattle.trace_text.specs.CpuTail.{tail_of};
+ghost use Rattle.pair_core.specs.Endings.{HasTail};
+ghost use Rattle.trace_text.specs.Text.{text};
 ghost use Rattle.trace_printer.specs.LoadText.{load_text};
 ghost use Rattle.pair_top.specs.Reading.{file_in, IsAccepted, IsPlanned};
 ghost use Rattle.pair_top.specs.Orders.{is_alone, visits_for};
@@ -25,7 +26,7 @@ use crate::reading::{load_source, play_connection, read_blocks, read_plant};
 use crate::words::{Command, command_from};
 use crate::{Fault, Gate, Outcome};
 use ft_connection::ConnText;
-use pair_core::{Mode, Pair, begins};
+use pair_core::{Pair, begins};
 use pair_io::{Files, Sink};
 use plant_script::Script;
 use s7_base::{Blocks, NoMemory, Side};
@@ -34,6 +35,7 @@ use std::sync::Wait;
 use std::thread::Threads;
 use subsystem::Subsystem;
 use trace_printer::{print, print_load};
+use trace_text::Mode;
 
 /// Both files of a play.
 #[tactic(auto, using(crate::proofs::Later::script_refused))]

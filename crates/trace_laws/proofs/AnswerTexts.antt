@@ -20,8 +20,8 @@ use Rattle.plant_script.specs.InputImage.{image_byte, input_image}
 use Rattle.pair_core.specs.Setup.{Setup}
 use Rattle.pair_core.specs.Ledger.{Ledger}
 use Rattle.pair_core.specs.Lawful.{MayAnswer}
-use Rattle.pair_core.specs.Image.{hex, image}
-use Rattle.pair_core.specs.EntryText.{side_word, stop_word, lost_text, answer_text}
+use Rattle.trace_text.specs.Image.{hex, image}
+use Rattle.trace_text.specs.EntryText.{side_word, stop_word, lost_text, answer_text}
 use Rattle.pair_core.proofs.Answers.{answer_any, plain_any}
 use Rattle.trace_laws.proofs.Splits.{Free, IsMark, line_feed, free_by, free_word, free_append, split_at}
 use Rattle.trace_laws.proofs.Numbers.{decimal_free, hex_one, hex_free}

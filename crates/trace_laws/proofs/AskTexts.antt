@@ -6,8 +6,8 @@ use Rattle.std.proofs.lemmas.List.{append_assoc, append_cancel_left}
 use Rattle.std.proofs.lemmas.Fmt.{decimal_injective}
 use Rattle.s7_events.specs.declared.entry.Ask.{Ask}
 use Rattle.s7_events.specs.declared.entry.Ask.TheVariants as asks
-use Rattle.pair_core.specs.Image.{hex, image}
-use Rattle.pair_core.specs.EntryText.{stop_word, reply_text, ask_text}
+use Rattle.trace_text.specs.Image.{hex, image}
+use Rattle.trace_text.specs.EntryText.{stop_word, reply_text, ask_text}
 use Rattle.trace_laws.specs.Determines.{IsInRange}
 use Rattle.trace_laws.proofs.Splits.{Free, equals_sign, free_by, free_append, split_at}
 use Rattle.trace_laws.proofs.Numbers.{decimal_free, hex_one, hex_free}

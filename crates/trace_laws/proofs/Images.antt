@@ -5,7 +5,7 @@ use Rattle.std.specs.Fmt.{decimal}
 use Rattle.std.proofs.lemmas.Bool.{cond_both, cond-true, cond-false, eq-eqb, ne_eqb, cases_eq}
 use Rattle.std.proofs.lemmas.List.{append_assoc}
 use Rattle.std.proofs.lemmas.Fmt.{decimal_injective}
-use Rattle.pair_core.specs.Image.{hex_digit, hex_byte, cell, cells, behind_commas, joined, image}
+use Rattle.trace_text.specs.Image.{hex_digit, hex_byte, cell, cells, behind_commas, joined, image}
 use Rattle.trace_laws.proofs.Splits.{Free, IsMark, mark_out, free_word, free_append, split_at}
 use Rattle.trace_laws.proofs.Numbers.{decimal_is, number_head, decimal_free, hex_byte_free, byte_one}
 

@@ -13,7 +13,7 @@ use Rattle.pair_core.specs.Setup.{Setup}
 use Rattle.pair_core.specs.Ledger.{Ledger, after}
 use Rattle.pair_core.specs.Lawful.{LawfulFrom}
 use Rattle.pair_core.specs.Played.{requests_of, answers_of}
-use Rattle.pair_core.specs.EntryText.{ask_text, answer_text}
+use Rattle.trace_text.specs.EntryText.{ask_text, answer_text}
 use Rattle.pair_core.proofs.Prefixes.{same_entry}
 use Rattle.trace_laws.specs.Determines.{IsRequest, AreRequests}
 use Rattle.trace_laws.proofs.Splits.{free_by, free_append, split_at}

@@ -4,7 +4,7 @@ use Rattle.std.specs.Prelude.{◌==◌, ◌⊎◌, nat_lt, get_or}
 use Rattle.std.specs.Fmt.{decimal, digits, digits_onto, digit_glyph}
 use Rattle.std.proofs.Math.Nat.{pow-suc}
 use Rattle.std.proofs.lemmas.Bool.{cond_both, ltb-true, ltb-false}
-use Rattle.pair_core.specs.Image.{hex_digit, hex_byte, hex}
+use Rattle.trace_text.specs.Image.{hex_digit, hex_byte, hex}
 use Rattle.trace_laws.proofs.Splits.{Free, IsMark, free_append, last_two}
 
 -- decimal digits alone

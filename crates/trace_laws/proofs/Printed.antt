@@ -13,7 +13,7 @@ use Rattle.pair_core.specs.Cuts.{is_cut, is_late}
 use Rattle.pair_core.specs.Sides.{other_side, runs}
 use Rattle.pair_core.specs.Showings.{is_output, showers_by, showers, tagged, showings_of, shown_from, shown_of}
 use Rattle.pair_core.specs.Endings.{IsShown}
-use Rattle.pair_core.specs.Text.{behind_showing}
+use Rattle.trace_text.specs.Text.{behind_showing}
 
 -- the showings behind those of an entry
 abbrev pub behind_both : ℕ → List (ℕ × Side) → List (ℕ × Side)

@@ -5,8 +5,8 @@ use Rattle.std.proofs.lemmas.Bool.{cond-true, cond-false, eq-eqb, ne_eqb, cases_
 use Rattle.std.proofs.lemmas.List.{append_assoc, append_cancel_left}
 use Rattle.s7_events.specs.declared.entry.Side.{Side}
 use Rattle.s7_events.specs.declared.entry.Side.TheVariants.{A, B}
-use Rattle.pair_core.specs.EntryText.{side_word}
-use Rattle.pair_core.specs.Text.{showing_line, behind_showing}
+use Rattle.trace_text.specs.EntryText.{side_word}
+use Rattle.trace_text.specs.Text.{showing_line, behind_showing}
 use Rattle.trace_laws.proofs.Printed.{behind_own, behind_other}
 
 -- a showing of entry k comes first, and has its line

@@ -6,16 +6,16 @@ use Rattle.std.proofs.lemmas.List.{append_assoc, append_cancel_left}
 use Rattle.s7_events.specs.declared.entry.Side.{Side}
 use Rattle.s7_events.specs.declared.entry.Entry.{Entry}
 use Rattle.s7_base.specs.Blocks.{Program}
-use Rattle.pair_core.specs.declared.endings.Mode.{Mode}
-use Rattle.pair_core.specs.declared.endings.Mode.TheVariants.{Solo, Pair, TailOnly}
+use Rattle.trace_text.specs.declared.mode.Mode.{Mode}
+use Rattle.trace_text.specs.declared.mode.Mode.TheVariants.{Solo, Pair, TailOnly}
 use Rattle.pair_core.specs.declared.endings.Ended.{Ended}
 use Rattle.pair_core.specs.declared.endings.Ended.TheVariants.{End, Stop, NoneLeft, Spent, NotPlayed}
 use Rattle.pair_core.specs.Setup.{Setup, made_for}
 use Rattle.pair_core.specs.Ledger.{first_ledger}
 use Rattle.pair_core.specs.Endings.{IsEnded}
-use Rattle.pair_core.specs.EntryText.{ask_text, answer_text}
-use Rattle.pair_core.specs.Tail.{Tail}
-use Rattle.pair_core.specs.Text.{showing_line, behind_showing, entries_text, record_text, tail_text, last_line}
+use Rattle.trace_text.specs.EntryText.{ask_text, answer_text}
+use Rattle.trace_text.specs.Tail.{Tail}
+use Rattle.trace_text.specs.Text.{showing_line, behind_showing, entries_text, record_text, tail_text, last_line}
 use Rattle.trace_laws.specs.Determines.{Run, text_of, HasRecord, IsWritten, AreSame, TextDetermines, TextAloneDetermines}
 use Rattle.trace_laws.proofs.Numbers.{decimal_is, number_head}
 use Rattle.trace_laws.proofs.Lines.{line_text, TellEntries, Tell, by_program, by_range}

@@ -7,12 +7,12 @@ use Rattle.s7_events.specs.declared.entry.Request.{Request}
 use Rattle.s7_events.specs.declared.entry.Entry.{Entry}
 use Rattle.s7_base.specs.Blocks.{Program}
 use Rattle.plant_script.specs.Plan.{Plan}
-use Rattle.pair_core.specs.declared.endings.Mode.{Mode}
-use Rattle.pair_core.specs.declared.endings.Mode.TheVariants.{Solo, Pair, TailOnly}
+use Rattle.trace_text.specs.declared.mode.Mode.{Mode}
+use Rattle.trace_text.specs.declared.mode.Mode.TheVariants.{Solo, Pair, TailOnly}
 use Rattle.pair_core.specs.declared.endings.Ended.{Ended}
 use Rattle.pair_core.specs.Played.{IsRun}
-use Rattle.pair_core.specs.Tail.{Tail}
-use Rattle.pair_core.specs.Text.{text}
+use Rattle.trace_text.specs.Tail.{Tail}
+use Rattle.trace_text.specs.Text.{text}
 
 -- a run, and how it is written: its script and whether side A is alone; its record, its showings and its end; the mode of
 -- its text, and the tail that the text has where the run has one

@@ -3,7 +3,7 @@ use Rattle.std.proofs.Common.{◌≡◌, ℕ, ◌+◌, ◌<◌, List, ◌++◌, 
 use Rattle.std.proofs.lemmas.List.{drop_more}
 use Rattle.s7_events.specs.declared.entry.Entry.{Entry}
 use Rattle.s7_events.specs.declared.entry.Side.{Side}
-use Rattle.pair_core.specs.Text.{entry_text, entries_text, behind_showing}
+use Rattle.trace_text.specs.Text.{entry_text, entries_text, behind_showing}
 
 pub entries_at : (entries : List Entry) (k : ℕ) (d : Entry) (shown left : List (ℕ × Side)) → k < length entries
     → left ≡ behind_showing k (behind_showing k shown)

@@ -2,7 +2,7 @@
 use Rattle.std.proofs.Common.{◌≡◌, ℕ, ◌+◌, List, ◌++◌, drop, Some, ap, ◌∙◌, sym}
 use Rattle.std.specs.List.{slice_get}
 use Rattle.s7_events.specs.declared.diagnostics.DiagCode.{DiagCode}
-use Rattle.pair_core.specs.Tail.{note_line, note_lines}
+use Rattle.trace_text.specs.Tail.{note_line, note_lines}
 use Rattle.trace_printer.proofs.Lists.{drop_at}
 
 pub lines_at : (notes : List (ℕ × DiagCode)) (k : ℕ) (note : ℕ × DiagCode) (line : List ℕ) → slice_get notes k ≡ Some note → line ≡ note_line note

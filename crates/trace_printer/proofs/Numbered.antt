@@ -2,7 +2,7 @@
 use Rattle.std.proofs.Common.{◌≡◌, ℕ, zero, suc, ◌+◌, ◌≤◌, List, [], ◌∷◌, ◌++◌, Option, drop, get_or, length, refl, ap, arith}
 use Rattle.std.specs.Prelude.{slice_get}
 use Rattle.std.proofs.Math.ListN.{drop_of_length-le}
-use Rattle.pair_core.specs.Tail.{block_by, block_line, block_lines, counter_line, counter_lines}
+use Rattle.trace_text.specs.Tail.{block_by, block_line, block_lines, counter_line, counter_lines}
 
 nothing_left : {X : Type 0} (k : ℕ) → drop {A = X} k [] ≡ []
 nothing_left zero = refl

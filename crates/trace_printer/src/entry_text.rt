@@ -1,6 +1,6 @@
 //! The line of an entry of the record: its number, its request and its answer.
 ghost use Rattle.std.specs.Prelude.{◌≡◌, ◌+◌, ◌≤◌, ◌++◌, length};
-ghost use Rattle.pair_core.specs.EntryText.{side_word, stop_word, lost_text, back_text, width_letter, place_text, job_text, reply_text, ask_text, answer_text, entry_line};
+ghost use Rattle.trace_text.specs.EntryText.{side_word, stop_word, lost_text, back_text, width_letter, place_text, job_text, reply_text, ask_text, answer_text, entry_line};
 
 use crate::line::Line;
 use s7_base::{Answer, Ask, Entry, Job, JobArea, Loss, Side, StopCode};

@@ -1,7 +1,7 @@
 //! A line that is being built, in a buffer of fixed size.
 ghost use Rattle.std.specs.Prelude.{◌≡◌, ℕ, ◌+◌, ◌*◌, ◌≤◌, ◌<◌, ◌∷◌, [], ◌++◌, List, length};
 ghost use Rattle.std.specs.Fmt.{decimal};
-ghost use Rattle.pair_core.specs.Image.{image, image_room, cell, next_cell, hex_digit, hex_byte, hex};
+ghost use Rattle.trace_text.specs.Image.{image, image_room, cell, next_cell, hex_digit, hex_byte, hex};
 
 use arrayvec::ArrayVec;
 use std::marker::Model;

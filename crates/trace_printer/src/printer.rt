@@ -7,9 +7,10 @@ ghost use Rattle.pair_io.specs.Bytes.{AppendsFront};
 ghost use Rattle.pair_io.specs.Causes.{Counts};
 ghost use Rattle.pair_io.specs.Writes.{Prints};
 ghost use Rattle.subsystem.specs.Part.{IsOpen};
-ghost use Rattle.pair_core.specs.CpuTail.{tail_of};
-ghost use Rattle.pair_core.specs.Tail.{no_tail};
-ghost use Rattle.pair_core.specs.Text.{showing_line, behind_showing, entry_text, entries_text, record_text, HasTail, tail_text, last_line, text};
+ghost use Rattle.trace_text.specs.CpuTail.{tail_of};
+ghost use Rattle.trace_text.specs.Tail.{no_tail};
+ghost use Rattle.pair_core.specs.Endings.{HasTail};
+ghost use Rattle.trace_text.specs.Text.{showing_line, behind_showing, entry_text, entries_text, record_text, tail_text, last_line, text};
 
 use crate::entry_text::{push_side, push_stop, put_entry};
 use crate::line::Line;
@@ -17,10 +18,11 @@ use crate::tail::{TailView, print_tail};
 use crate::views::CpuView;
 use crate::writing::{SinkFault, write_line};
 use event_record::Record;
-use pair_core::{Ended, Mode, Shown};
+use pair_core::{Ended, Shown};
 use pair_io::Sink;
 use s7_base::{Entry, Side};
 use subsystem::Subsystem;
+use trace_text::Mode;
 
 /// Writes the line of a showing of entry k, where one stands first in the list, and gives the list behind it.
 fn print_showing<'a, K: Sink>(

@@ -2,8 +2,8 @@
 ghost use Rattle.std.specs.Prelude.{◌≡◌, ℕ, ◌+◌, ◌<◌, ◌≤◌, ◌++◌, length, slice_index, Some};
 ghost use Rattle.std.specs.Option.{option_map};
 ghost use Rattle.pair_io.specs.Writes.{Prints};
-ghost use Rattle.pair_core.specs.Image.{image, image_room};
-ghost use Rattle.pair_core.specs.Tail.{area_bytes, IsOfSize, IsTailArea, block_of, diag_text, note_line, note_lines, count_line, area_line, area_lines, block_line, block_lines, counter_line, counter_lines, tail_lines};
+ghost use Rattle.trace_text.specs.Image.{image, image_room};
+ghost use Rattle.trace_text.specs.Tail.{area_bytes, IsOfSize, IsTailArea, block_of, diag_text, note_line, note_lines, count_line, area_line, area_lines, block_line, block_lines, counter_line, counter_lines, tail_lines};
 
 use crate::entry_text::{push_back, push_lost, push_stop};
 use crate::line::Line;
@@ -15,7 +15,7 @@ use s7_base::{Area, DiagCode, Loss};
 pub trait TailView {
     ghost use Rattle.std.specs.Prelude.{◌≡◌, ◌≤◌, ℕ, length, slice_get, slice_index, IfSome};
     ghost use Rattle.std.specs.Option.{option_map};
-    ghost use Rattle.pair_core.specs.Tail.{Tail, IsTailArea, IsOfSize, area_bytes, block_of};
+    ghost use Rattle.trace_text.specs.Tail.{Tail, IsTailArea, IsOfSize, area_bytes, block_of};
 
     /// What a tail shows.
     ghost tail: { Self → Tail };

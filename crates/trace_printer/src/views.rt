@@ -26,7 +26,7 @@ impl<'a> CpuView<'a> {
 }
 
 impl TailView for CpuView<'_> {
-    ghost use Rattle.pair_core.specs.CpuTail.{tail_of};
+    ghost use Rattle.trace_text.specs.CpuTail.{tail_of};
 
     ghost tail = { λ view. tail_of view.side.now.machine };
 

@@ -7,7 +7,7 @@ use Rattle.pair_core.specs.declared.endings.Ended.{Ended}
 use Rattle.pair_core.specs.Sides.{runs}
 use Rattle.pair_core.specs.World.{part, standing_in}
 use Rattle.pair_core.specs.Places.{StandsAfter}
-use Rattle.pair_core.specs.Text.{HasTail}
+use Rattle.pair_core.specs.Endings.{HasTail}
 use Rattle.pair_top.specs.Playing.{AreAt, of_side}
 use Rattle.pair_top.specs.Serving.{IsFinished, ComesToTail, account_of}
 use Rattle.pair_top.proofs.play.finish.Goals as goal

@@ -1,9 +1,9 @@
 -- A play, and its text.
 use Rattle.std.proofs.Common.{sym, subst}
 use Rattle.s7_events.specs.declared.entry.Side.TheVariants.{A, B}
-use Rattle.pair_core.specs.declared.endings.Mode.{Mode}
-use Rattle.pair_core.specs.CpuTail.{tail_of}
-use Rattle.pair_core.specs.Text.{text}
+use Rattle.trace_text.specs.declared.mode.Mode.{Mode}
+use Rattle.trace_text.specs.CpuTail.{tail_of}
+use Rattle.trace_text.specs.Text.{text}
 use Rattle.pair_top.specs.WordsView.{manner_in}
 use Rattle.pair_top.specs.Serving.{Account, IsWriting, IsOutcome, account_of, sink_in}
 use Rattle.pair_top.proofs.Serves.{outcome, is_play, is_tail}

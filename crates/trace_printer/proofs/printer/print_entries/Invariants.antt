@@ -1,6 +1,6 @@
 use Rattle.std.proofs.Common.{drop}
 use Rattle.pair_io.specs.Writes.{state_of}
-use Rattle.pair_core.specs.Text.{entries_text}
+use Rattle.trace_text.specs.Text.{entries_text}
 use Rattle.trace_printer.proofs.Sections.{IsLeft}
 use Rattle.trace_printer.proofs.printer.print_entries.Given as goal
 

@@ -1,6 +1,6 @@
 use Rattle.std.proofs.Common.{List, ℕ, ap, codes, refl}
 use Rattle.s7_events.specs.declared.entry.Side.{Side}
-use Rattle.pair_core.specs.Text.{showing_line}
+use Rattle.trace_text.specs.Text.{showing_line}
 use Rattle.trace_printer.proofs.Sections.{goes_on, halts, closes}
 use Rattle.trace_printer.proofs.printer.print_entry.Goals as goal
 

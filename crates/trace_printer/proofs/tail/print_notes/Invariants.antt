@@ -1,6 +1,6 @@
 use Rattle.std.proofs.Common.{◌≡◌, length, drop}
 use Rattle.pair_io.specs.Writes.{state_of}
-use Rattle.pair_core.specs.Tail.{note_lines}
+use Rattle.trace_text.specs.Tail.{note_lines}
 use Rattle.trace_printer.proofs.Sections.{IsLeft}
 use Rattle.trace_printer.proofs.tail.print_notes.Given as goal
 

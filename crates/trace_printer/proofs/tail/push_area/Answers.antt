@@ -1,6 +1,6 @@
 use Rattle.std.proofs.Common.{◌≡◌, ◌+◌, drop, ◌∷◌, Some, slice_get, sym, arith, ap, length}
 use Rattle.std.proofs.lemmas.Grind.{common_steps}
-use Rattle.pair_core.specs.Tail.{area_bytes}
+use Rattle.trace_text.specs.Tail.{area_bytes}
 use Rattle.trace_printer.proofs.Lists.{drop_at}
 use Rattle.trace_printer.proofs.tail.push_area.Goals as goal
 use Rattle.trace_printer.proofs.tail.push_area.Goals.{then-byte-ne0, else-byte-ne0}

@@ -1,6 +1,6 @@
 use Rattle.std.proofs.Common.{◌≡◌, ◌+◌, ◌*◌, ◌-◌, ◌≤◌, ◌<◌, ◌++◌, length, drop}
-use Rattle.pair_core.specs.Image.{image, cells}
-use Rattle.pair_core.specs.Tail.{area_bytes}
+use Rattle.trace_text.specs.Image.{image, cells}
+use Rattle.trace_text.specs.Tail.{area_bytes}
 use Rattle.trace_printer.proofs.Images.{rest_of}
 use Rattle.trace_printer.proofs.tail.push_area.Given as goal
 

@@ -7,7 +7,7 @@ use Rattle.pair_core.specs.Played.{IsRun, IsSideOf}
 use Rattle.pair_core.specs.Good.{Good}
 use Rattle.pair_core.specs.Finished.{ended_by}
 use Rattle.pair_core.proofs.Runs.{good_run}
-use Rattle.pair_core.specs.Text.{HasTail}
+use Rattle.pair_core.specs.Endings.{HasTail}
 use Rattle.pair_core.proofs.Sided.{side_of, last_stands}
 use Rattle.pair_core.proofs.pair.Pair.finish.Goals as goal
 

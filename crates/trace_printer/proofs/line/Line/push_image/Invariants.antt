@@ -1,5 +1,5 @@
 use Rattle.std.proofs.Common.{◌≡◌, ◌+◌, ◌*◌, ◌-◌, ◌≤◌, ◌++◌, length, drop}
-use Rattle.pair_core.specs.Image.{image, cells}
+use Rattle.trace_text.specs.Image.{image, cells}
 use Rattle.trace_printer.proofs.Images.{rest_of}
 use Rattle.trace_printer.proofs.line.Line.push_image.Given as goal
 

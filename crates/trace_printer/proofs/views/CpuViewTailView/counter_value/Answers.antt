@@ -3,7 +3,7 @@ use Rattle.std.proofs.Common.{◌≡◌, ◌≤◌, ℕ, zero, suc, List, [], �
 use Rattle.std.specs.Prelude.{map, slice_index, slice_index_or}
 use Rattle.counters.specs.State.{CounterState, fresh}
 use Rattle.mc_machine.specs.Stands.{Running, IsRunning, OfRunning, counter_of}
-use Rattle.pair_core.specs.CpuTail.{tail_of}
+use Rattle.trace_text.specs.CpuTail.{tail_of}
 use Rattle.std.proofs.lemmas.List.{length-map}
 use Rattle.trace_printer.proofs.views.CpuViewTailView.counter_value.Goals as goal
 

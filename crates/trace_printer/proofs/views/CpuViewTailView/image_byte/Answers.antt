@@ -3,8 +3,8 @@ use Rattle.std.proofs.Common.{◌≡◌, ℕ, Option, Some, None, refl, ◌∙�
 use Rattle.s7_events.specs.declared.diagnostics.Area.{Area}
 use Rattle.s7_events.specs.declared.diagnostics.Area.TheVariants.{I, Q, M, Db, Timers, Counters, Registers}
 use Rattle.mc_machine.specs.Stands.{Running, IsRunning, byte_of}
-use Rattle.pair_core.specs.CpuTail.{tail_of}
-use Rattle.pair_core.specs.Tail.{IsTailArea, area_bytes}
+use Rattle.trace_text.specs.CpuTail.{tail_of}
+use Rattle.trace_text.specs.Tail.{IsTailArea, area_bytes}
 use Rattle.trace_printer.proofs.views.CpuViewTailView.image_byte.Goals as goal
 
 byte_of_tail : (machine : Option Running) (area : Area) (at : ℕ) → IsRunning machine → IsTailArea area → byte_of machine area at ≡ slice_get (area_bytes (tail_of machine) area) at

@@ -3,12 +3,12 @@ use Rattle.std.specs.Prelude.{ℕ, ◌+◌, ◌==◌, List, [], ◌∷◌, ◌++
 use Rattle.std.specs.Fmt.{decimal}
 use Rattle.s7_events.specs.declared.entry.Side.{Side}
 use Rattle.s7_events.specs.declared.entry.Entry.{Entry}
-use Rattle.pair_core.specs.declared.endings.Mode.{Mode}
-use Rattle.pair_core.specs.declared.endings.Mode.TheVariants.{Solo, Pair, TailOnly}
+use Rattle.trace_text.specs.declared.mode.Mode.{Mode}
+use Rattle.trace_text.specs.declared.mode.Mode.TheVariants.{Solo, Pair, TailOnly}
 use Rattle.pair_core.specs.declared.endings.Ended.{Ended}
 use Rattle.pair_core.specs.declared.endings.Ended.TheVariants.{End, Stop, NoneLeft, Spent, NotPlayed}
-use Rattle.pair_core.specs.EntryText.{side_word, stop_word, entry_line}
-use Rattle.pair_core.specs.Tail.{Tail, tail_lines}
+use Rattle.trace_text.specs.EntryText.{side_word, stop_word, entry_line}
+use Rattle.trace_text.specs.Tail.{Tail, tail_lines}
 
 -- the line of a showing of entry k, where one stands first in the list of showings that are left
 abbrev pub showing_line : List ℕ → ℕ → List (ℕ × Side) → List ℕ
@@ -39,13 +39,6 @@ record_text Pair entries shown = codes "TRACE 1 PAIR\n" ++ entries_text 0 entrie
 record_text TailOnly entries shown = []
 
 -- a tail follows where the record ended or the CPU stopped
-abbrev pub HasTail : Ended → Type 0
-HasTail End = Unit {0}
-HasTail (Stop code) = Unit {0}
-HasTail NoneLeft = ⊥
-HasTail Spent = ⊥
-HasTail NotPlayed = ⊥
-
 abbrev pub tail_text : Ended → Tail → List ℕ
 tail_text End tail = tail_lines tail
 tail_text (Stop code) tail = tail_lines tail

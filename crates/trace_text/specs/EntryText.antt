@@ -15,7 +15,7 @@ use Rattle.s7_events.specs.declared.entry.Ask.TheVariants as asks
 use Rattle.s7_events.specs.declared.entry.Answer.{Answer}
 use Rattle.s7_events.specs.declared.entry.Answer.TheVariants as answers
 use Rattle.s7_events.specs.declared.entry.Entry.{Entry}
-use Rattle.pair_core.specs.Image.{hex, image}
+use Rattle.trace_text.specs.Image.{hex, image}
 
 abbrev pub side_word : Side → List ℕ
 side_word A = codes "A"

@@ -8,8 +8,8 @@ use Rattle.s7_events.specs.declared.diagnostics.Area.{Area}
 use Rattle.s7_events.specs.declared.diagnostics.Area.TheVariants.{I, Q, M, Db, Timers, Counters, Registers}
 use Rattle.s7_events.specs.declared.diagnostics.DiagCode.{DiagCode}
 use Rattle.s7_events.specs.declared.diagnostics.DiagCode.TheVariants as diag
-use Rattle.pair_core.specs.Image.{image}
-use Rattle.pair_core.specs.EntryText.{lost_text, back_text, stop_word}
+use Rattle.trace_text.specs.Image.{image}
+use Rattle.trace_text.specs.EntryText.{lost_text, back_text, stop_word}
 
 -- what a tail shows of a CPU: the diagnostic entries that it keeps, the oldest first, each with its moment; the bytes
 -- of I, Q and M; by its number the bytes of each data block that is loaded; and by its number the value of each counter

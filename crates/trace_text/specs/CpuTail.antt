@@ -5,7 +5,7 @@ use Rattle.statement_effects.specs.State.{Memory}
 use Rattle.mc_machine.specs.Places.{Note}
 use Rattle.mc_machine.specs.Meaning.{State}
 use Rattle.mc_machine.specs.Stands.{Running, newest}
-use Rattle.pair_core.specs.Tail.{Tail, no_tail}
+use Rattle.trace_text.specs.Tail.{Tail, no_tail}
 
 abbrev pub noted : List Note → List (ℕ × DiagCode)
 noted notes = map (λ note. (note.moment, note.code)) notes
