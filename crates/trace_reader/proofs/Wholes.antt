@@ -63,11 +63,11 @@ last_closes endings.NoneLeft count = (refl, refl, refl)
 last_closes endings.Spent count = (refl, refl, refl)
 
 pub entries_close : (tail : Option Tail) (ending : Ending) (count : ℕ) → FitsEnding tail ending → ClosesEntries (tail_lines tail ++ last_line ending count)
-entries_close (Some tail) ending count fits = (number_at_none 4294967295 (tail_lines (Some tail) ++ last_line ending count) refl, refl, refl)
+entries_close (Some tail) ending count fits = (number_at_none 4294967294 (tail_lines (Some tail) ++ last_line ending count) refl, refl, refl)
 entries_close None endings.End count fits = absurd fits
 entries_close None (endings.Stop code) count fits = absurd fits
-entries_close None endings.NoneLeft count fits = (number_at_none 4294967295 (last_line endings.NoneLeft count) refl, refl, refl)
-entries_close None endings.Spent count fits = (number_at_none 4294967295 (last_line endings.Spent count) refl, refl, refl)
+entries_close None endings.NoneLeft count fits = (number_at_none 4294967294 (last_line endings.NoneLeft count) refl, refl, refl)
+entries_close None endings.Spent count fits = (number_at_none 4294967294 (last_line endings.Spent count) refl, refl, refl)
 
 ending_once : (tail : Option Tail) (ending : Ending) (count : ℕ) → FitsEnding tail ending → count < 4294967296 → ending_at (is_some tail) count (last_line ending count ++ []) ≡ Some (ending, [])
 ending_once (Some tail) endings.End count fits few = end_again count [] few

@@ -59,7 +59,7 @@ showings_at request answer text = if is_output request answer then shown_at text
 -- the line of entry k
 unfoldable pub asked_at : ℕ → List ℕ → Option (Entry × List ℕ)
 asked_at k text = do
-  number ← number_at 4294967295 text
+  number ← number_at 4294967294 text
   rest ← if number.0 == k then after (codes " ") number.1 else None
   priority ← number_at 255 rest
   ask ← after (codes " ") priority.1

@@ -1,5 +1,5 @@
 //! Reads a trace, section by section.
-ghost use Rattle.std.specs.Prelude.{◌≡◌, ◌++◌, ◌-◌, ◌<◌, ℕ, List, Option, length, codes, None, is_some, IfOk, IfErr, IfSome};
+ghost use Rattle.std.specs.Prelude.{◌≡◌, ◌++◌, ◌-◌, ◌<◌, ℕ, List, Option, length, codes, Some, None, is_some, IfOk, IfErr, IfSome};
 ghost use Rattle.std.specs.List.{flat_map};
 ghost use Rattle.trace_reader.specs.declared.trace.Entry.{Entry};
 ghost use Rattle.trace_reader.specs.declared.trace.Note.{Note};
@@ -10,10 +10,10 @@ ghost use Rattle.trace_reader.specs.declared.trace.Trace.{Trace};
 ghost use Rattle.trace_reader.specs.declared.reading.Stop.TheVariants as stops;
 ghost use Rattle.trace_reader.specs.declared.reading.TraceFault.TheVariants as faults;
 ghost use Rattle.trace_reader.specs.Blocks.{DataBlock};
-ghost use Rattle.trace_reader.specs.Ranges.{Each, FitsEntry, FitsNote, FitsAreas, FitsBlock, FitsCounter, FitsTail, IsTrace, ClosesEntries, ClosesTail};
+ghost use Rattle.trace_reader.specs.Ranges.{Each, FitsEntry, FitsNote, FitsAreas, FitsBlock, FitsCounter, FitsTail, IsTrace, ClosesEntries, ClosesTail, EndShowings, EndsAs};
 ghost use Rattle.trace_reader.specs.Text.{entries_text, note_line, area_lines, block_line, counter_line, notes_and_after, tail_lines, last_line, text_of};
 ghost use Rattle.std.specs.Option.{option_map};
-ghost use Rattle.trace_reader.specs.Lines.{ending_at};
+ghost use Rattle.trace_reader.specs.Lines.{entry_at, ending_at};
 ghost use Rattle.trace_reader.specs.Refusal.{line_number, IsLineOf};
 
 use crate::blocks::{blocks_from, counters_from};
@@ -44,6 +44,10 @@ enum Stop {
 #[tactic(auto, using(crate::proofs::Sections::entries_more, std::proofs::Common::append_assoc))]
 fn entries_from(alloc: Global, text: &[u8]) -> Result<(Vec<Entry>, &[u8]), AllocError>
     ensures written { IfOk result (λ p. text.now ≡ entries_text 0 p.0.items ++ p.1.now) }
+    ensures fits { IfOk result (λ p. Each FitsEntry p.0.items) }
+    ensures few { IfOk result (λ p. length p.0.items < 4294967296) }
+    ensures over { IfOk result (λ p. entry_at (length p.0.items) p.1.now ≡ None) }
+    ensures shown { IfOk result (λ p. EndShowings p.0.items p.1.now) }
     ensures exact { (entries : List Entry) (rest : List ℕ) → length entries < 4294967296 → Each FitsEntry entries → ClosesEntries rest → text.now ≡ entries_text 0 entries ++ rest → IfOk result (λ p. (p.0.items ≡ entries) × (p.1.now ≡ rest)) }
 {
     let mut entries = Vec::new(alloc);
@@ -59,6 +63,7 @@ fn entries_from(alloc: Global, text: &[u8]) -> Result<(Vec<Entry>, &[u8]), Alloc
 #[tactic(auto, using(crate::proofs::Sections::more_after, std::proofs::Common::append_assoc))]
 fn notes_from(alloc: Global, text: &[u8], count: u32) -> Result<(Vec<Note>, &[u8]), Stop>
     ensures written { IfOk result (λ p. text.now ≡ flat_map note_line p.0.items ++ p.1.now) }
+    ensures fits { IfOk result (λ p. Each FitsNote p.0.items) }
     ensures count { IfOk result (λ p. length p.0.items ≡ count) }
     ensures exact { (notes : List Note) (rest : List ℕ) → length notes ≡ count → Each FitsNote notes → text.now ≡ flat_map note_line notes ++ rest → IfOk result (λ p. p.1.now ≡ rest) × IfErr result (λ stop. stop ≡ stops.NoMemory) }
 {
@@ -80,6 +85,7 @@ fn notes_from(alloc: Global, text: &[u8], count: u32) -> Result<(Vec<Note>, &[u8
 #[tactic(auto, using(std::proofs::Common::append_assoc))]
 fn tail_of(alloc: Global, notes: Vec<Note>, text: &[u8]) -> Result<(Tail, &[u8]), Stop>
     ensures written { IfOk result (λ p. flat_map note_line notes.items ++ text.now ≡ notes_and_after p.0 ++ p.1.now) }
+    ensures fits { length notes.items < 4294967296 → Each FitsNote notes.items → IfOk result (λ p. FitsTail (Some p.0)) }
     ensures count { IfOk result (λ p. p.0.notes ≡ notes) }
     ensures exact { (areas : Areas) (blocks : List DataBlock) (counters : List Counter) (rest : List ℕ) → FitsAreas areas → Each FitsBlock blocks → Each FitsCounter counters → ClosesTail rest
         → text.now ≡ area_lines areas ++ (flat_map block_line blocks ++ (flat_map counter_line counters ++ rest)) → IfOk result (λ p. p.1.now ≡ rest) × IfErr result (λ stop. stop ≡ stops.NoMemory) }
@@ -109,6 +115,7 @@ fn tail_of(alloc: Global, notes: Vec<Note>, text: &[u8]) -> Result<(Tail, &[u8])
 #[tactic(auto, using(std::proofs::Common::append_assoc))]
 fn tail_from(alloc: Global, text: &[u8]) -> Result<(Option<Tail>, &[u8]), Stop>
     ensures written { IfOk result (λ p. text.now ≡ tail_lines p.0 ++ p.1.now) }
+    ensures fits { IfOk result (λ p. FitsTail p.0) }
     ensures exact { (tail : Option Tail) (rest : List ℕ) → FitsTail tail → ClosesTail rest → text.now ≡ tail_lines tail ++ rest → IfOk result (λ p. (is_some p.0 ≡ is_some tail) × (p.1.now ≡ rest)) × IfErr result (λ stop. stop ≡ stops.NoMemory) }
 {
     let Some((count, rest)) = count_at(text) else {
@@ -127,6 +134,8 @@ fn tail_from(alloc: Global, text: &[u8]) -> Result<(Option<Tail>, &[u8]), Stop>
 /// Returns how a trace of so many entries ended, and the text after its last line.
 fn ending_from(text: &[u8], has_tail: bool, count: usize) -> Option<(Ending, &[u8])>
     ensures written { IfSome result (λ p. text.now ≡ last_line p.0 count ++ p.1.now) }
+    ensures fits { IfSome result (λ p. EndsAs has_tail p.0) }
+    ensures few { IfSome result (λ p. count < 4294967296) }
     ensures exact { option_map (λ p. (p.0, p.1.now)) result ≡ ending_at has_tail count text.now }
 {
     if has_tail {
@@ -140,6 +149,7 @@ fn ending_from(text: &[u8], has_tail: bool, count: usize) -> Option<(Ending, &[u
 #[tactic(auto, using(std::proofs::Common::append_assoc))]
 fn trace_from(alloc: Global, text: &[u8]) -> Result<Trace, Stop>
     ensures written { IfOk result (λ trace. text_of trace ≡ text.now) }
+    ensures fits { IfOk result (λ trace. IsTrace trace) }
     ensures exact { (trace : Trace) → IsTrace trace → text_of trace ≡ text.now → IfErr result (λ stop. stop ≡ stops.NoMemory) }
 {
     let Some((mode, rest)) = title_at(text) else {
@@ -186,6 +196,7 @@ fn line_of(text: &[u8], left: usize) -> usize
 /// the line after its last.
 pub fn read(alloc: Global, text: &[u8]) -> Result<Trace, TraceFault>
     ensures written { IfOk result (λ trace. text_of trace ≡ text.now) }
+    ensures fits { IfOk result (λ trace. IsTrace trace) }
     ensures exact { (trace : Trace) → IsTrace trace → text_of trace ≡ text.now → IfErr result (λ fault. fault ≡ faults.NoMemory) }
     ensures line { IfErr result (λ fault. IsLineOf text.now fault) }
 {
