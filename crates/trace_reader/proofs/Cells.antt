@@ -89,7 +89,7 @@ one_more first at count byte rest next front is =
     let later = cells_from (first && eqb byte 0) (at + 1) count next in
     rw (sym is) (ap (λ (xs : List ℕ). (xs, later.1)) (sym (append_assoc front (byte ∷ []) later.0)))
 
--- the reading goes on behind the byte that was read
+-- the reading goes on after the byte that was read
 pub cells_go_on : (text bytes rest next : List ℕ) (at byte : ℕ) (first : Bool) → at < length bytes → (byte, next) ≡ byte_of first at rest
     → with_bytes (take at bytes) (cells_from first at (length bytes - at) rest) ≡ cells_from true 0 (length bytes) text
     → with_bytes (take (at + 1) (slice_set bytes at byte)) (cells_from (first && eqb byte 0) (at + 1) (length (slice_set bytes at byte) - (at + 1)) next) ≡ cells_from true 0 (length (slice_set bytes at byte)) text

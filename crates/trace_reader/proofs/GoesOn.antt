@@ -91,9 +91,9 @@ no_entry_left all read rest end few closes over (y ∷ more, whole, fit, here) =
     clash : read_as y (entries_text (length read + 1) more ++ end) ≡ None → ⊥
     clash e = absurd cc
 
--- ---- so many lines
+-- ---- a given number of lines
 
--- one of so many lines was read
+-- one of a given number of lines was read
 pub one_of_many_less : {A : Type 0} (line : A → List ℕ) (Fits : A → Type 0) (read_at : List ℕ → Option (A × List ℕ)) (all read : List A) (rest end next : List ℕ) (x : A)
     → ((y : A) (after : List ℕ) → Fits y → read_at (line y ++ after) ≡ Some (y, after)) → length read < length all
     → read_at rest ≡ Some (x, next) → Left line Fits all read rest end → Left line Fits all (read ++ x ∷ []) next end
@@ -104,7 +104,7 @@ one_of_many_less {A} line Fits read_at all read rest end next x again short foun
     let taken = pair_is y x (flat_map line more ++ end) next (sym (again y (flat_map line more ++ end) fit.0) ∙ sym (ap read_at (here ∙ append_assoc (line y) (flat_map line more) end)) ∙ found) in
     (more, whole ∙ ap (λ (z : A). read ++ z ∷ more) taken.0 ∙ sym (append_assoc read (x ∷ []) more), fit.1, sym taken.1)
 
--- the last of so many lines was read
+-- the last of a given number of lines was read
 pub many_done : {A : Type 0} (line : A → List ℕ) (Fits : A → Type 0) (all read : List A) (rest end : List ℕ) → length all ≤ length read → Left line Fits all read rest end → rest ≡ end
 many_done line Fits all read rest end full ([], whole, fit, here) = here
 many_done line Fits all read rest end full (y ∷ more, whole, fit, here) =

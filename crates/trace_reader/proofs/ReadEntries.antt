@@ -23,7 +23,7 @@ use Rattle.trace_reader.proofs.ReadLines.{number_before, number_then, request_ag
 abbrev pub NoShowing : List ℕ → Type 0
 NoShowing rest = (after (codes "SHOW ") rest ≡ None) × (after (codes "AGAIN ") rest ≡ None)
 
-abbrev bare : Entry → Entry
+abbrev pub bare : Entry → Entry
 bare entry = record { priority = entry.priority; request = entry.request; answer = entry.answer; shown = showings.None }
 
 pub asked_again : (k : ℕ) (entry : Entry) (rest : List ℕ) → k < 4294967295 → FitsEntry entry → asked_at k (entry_line k entry ++ rest) ≡ Some (bare entry, rest)
@@ -93,14 +93,18 @@ entry_no_showing k more rest few =
       ap (after (codes "AGAIN ")) joined ∙ no_word 65 (codes "GAIN ") (decimal k) (more ++ rest) refl some digits,
     )
 
-pub entries_no_showing : (k : ℕ) (entries : List Entry) (rest : List ℕ) → k + length entries ≤ 4294967295 → ClosesEntries rest → NoShowing (entries_text k entries ++ rest)
-entries_no_showing k [] rest few closes = (closes.1, closes.2)
-entries_no_showing k (entry ∷ entries) rest few closes =
+-- entries begin with no showing, whatever follows them
+pub entries_begin_quiet : (k : ℕ) (entry : Entry) (entries : List Entry) (rest : List ℕ) → k < 4294967296 → NoShowing (entries_text k (entry ∷ entries) ++ rest)
+entries_begin_quiet k entry entries rest few =
     let line = codes " " ++ (decimal entry.priority ++ (codes " " ++ (request_text entry.request ++ (codes " = " ++ (answer_text entry.answer ++ codes "\n"))))) in
     let later = shown_lines entry.shown ++ entries_text (k + 1) entries in
     let joined : ((decimal k ++ line) ++ later) ++ rest ≡ (decimal k ++ line) ++ (later ++ rest) = append_assoc (decimal k ++ line) later rest in
-    let quiet = entry_no_showing k line (later ++ rest) (omega (arith, few)) in
+    let quiet = entry_no_showing k line (later ++ rest) few in
     (ap (after (codes "SHOW ")) joined ∙ quiet.0, ap (after (codes "AGAIN ")) joined ∙ quiet.1)
+
+entries_no_showing : (k : ℕ) (entries : List Entry) (rest : List ℕ) → k + length entries ≤ 4294967295 → ClosesEntries rest → NoShowing (entries_text k entries ++ rest)
+entries_no_showing k [] rest few closes = (closes.1, closes.2)
+entries_no_showing k (entry ∷ entries) rest few closes = entries_begin_quiet k entry entries rest (omega (arith, few))
 
 -- the first of some entries is read
 pub first_entry : (k : ℕ) (entry : Entry) (entries : List Entry) (rest : List ℕ) → k + suc (length entries) ≤ 4294967295 → FitsEntry entry → ClosesEntries rest

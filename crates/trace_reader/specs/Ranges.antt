@@ -18,9 +18,8 @@ use Rattle.trace_reader.specs.declared.trace.Counter.{Counter}
 use Rattle.trace_reader.specs.declared.trace.Ending.{Ending}
 use Rattle.trace_reader.specs.declared.trace.Ending.TheVariants as endings
 use Rattle.trace_reader.specs.declared.trace.Areas.{Areas}
-use Rattle.trace_reader.specs.declared.trace.Tail.{Tail}
-use Rattle.trace_reader.specs.declared.trace.Trace.{Trace}
 use Rattle.trace_reader.specs.Blocks.{DataBlock}
+use Rattle.trace_reader.specs.Parts.{TailParts, TraceParts}
 use Rattle.trace_reader.specs.Fields.{after, number_at}
 use Rattle.trace_reader.specs.Lines.{is_output, showings_at}
 use Rattle.trace_reader.specs.Text.{shown_lines}
@@ -29,7 +28,7 @@ abbrev pub AreBytes : List ℕ → Type 0
 AreBytes [] = ⊤
 AreBytes (byte ∷ bytes) = (byte < 256) × AreBytes bytes
 
--- an image of so many bytes
+-- an image of this number of bytes
 abbrev pub IsImage : ℕ → List ℕ → Type 0
 IsImage count bytes = (length bytes ≡ count) × AreBytes bytes
 
@@ -101,11 +100,11 @@ FitsBlock block = (block.number < 256) × IsImage 65536 block.bytes
 abbrev pub FitsCounter : Counter → Type 0
 FitsCounter counter = (counter.number < 256) × (counter.value < 65536)
 
-abbrev pub FitsTail : Option Tail → Type 0
+abbrev pub FitsTail : Option TailParts → Type 0
 FitsTail None = ⊤
 FitsTail (Some tail) =
-    (length tail.notes.items < 4294967296) × Each FitsNote tail.notes.items × FitsAreas tail.areas
-    × Each FitsBlock tail.blocks.items × Each FitsCounter tail.counters.items
+    (length tail.notes < 4294967296) × Each FitsNote tail.notes × FitsAreas tail.areas
+    × Each FitsBlock tail.blocks × Each FitsCounter tail.counters
 
 -- END and STOP end a trace that has a tail, NONE and SPENT one that has none
 abbrev pub EndsAs : Bool → Ending → Type 0
@@ -115,12 +114,12 @@ EndsAs false endings.NoneLeft = ⊤
 EndsAs false endings.Spent = ⊤
 EndsAs _ _ = ⊥
 
-abbrev pub FitsEnding : Option Tail → Ending → Type 0
+abbrev pub FitsEnding : Option TailParts → Ending → Type 0
 FitsEnding tail ending = EndsAs (is_some tail) ending
 
-abbrev pub IsTrace : Trace → Type 0
+abbrev pub IsTrace : TraceParts → Type 0
 IsTrace trace =
-    (length trace.entries.items < 4294967296) × Each FitsEntry trace.entries.items × FitsTail trace.tail × FitsEnding trace.tail trace.ending
+    (length trace.entries < 4294967296) × Each FitsEntry trace.entries × FitsTail trace.tail × FitsEnding trace.tail trace.ending
 
 -- no entry and no showing begins here
 abbrev pub ClosesEntries : List ℕ → Type 0

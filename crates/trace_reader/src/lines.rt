@@ -1,11 +1,12 @@
 //! The lines of a trace, each at the front of a text.
-ghost use Rattle.std.specs.Prelude.{◌≡◌, ◌⊎◌, ◌∷◌, ◌++◌, ◌<◌, true, false, length, codes, IfOk, IfSome};
+ghost use Rattle.std.specs.Prelude.{◌≡◌, ◌⊎◌, ◌∷◌, ◌++◌, ◌<◌, true, false, length, codes, IfOk, IfErr, IfSome};
 ghost use Rattle.std.specs.Fmt.{decimal};
 ghost use Rattle.std.specs.Option.{option_map};
 ghost use Rattle.std.specs.Result.{result_ok};
 ghost use Rattle.trace_reader.specs.Lines.{title_at, is_output, side_line_at, shown_at, showings_at, asked_at, entry_at, count_at, note_at, image_line_at, areas_at, counter_at, entries_at, last_at, cut_at};
 ghost use Rattle.trace_reader.specs.declared.trace.Showings.TheVariants as showings;
 ghost use Rattle.trace_reader.specs.Images.{image};
+ghost use Rattle.trace_reader.specs.Refusal.{StopsAt, WithinAreas, BeginsAreas};
 ghost use Rattle.trace_reader.specs.Ranges.{IsImage, FitsEntry, FitsNote, FitsAreas, FitsCounter, EndsAs};
 ghost use Rattle.trace_reader.specs.Text.{title_line, side_text, entry_line, shown_lines, count_line, note_line, counter_line, area_lines, last_line};
 
@@ -129,6 +130,7 @@ pub fn entry_at(text: &[u8], k: usize) -> Option<(Entry, &[u8])>
 pub fn count_at(text: &[u8]) -> Option<(u32, &[u8])>
     ensures exact { option_map (λ p. (p.0, p.1.now)) result ≡ count_at text.now }
     ensures written { IfSome result (λ p. text.now ≡ count_line p.0 ++ p.1.now) }
+    ensures within { IfSome result (λ p. p.0 < 4294967296) }
 {
     let rest = after(b"DIAG ", text)?;
     let (count, rest) = number_at(rest, u32::MAX)?;
@@ -183,10 +185,20 @@ pub fn areas_at(text: &[u8]) -> Result<(Areas, &[u8]), usize>
     ensures exact { option_map (λ p. (p.0, p.1.now)) (result_ok result) ≡ areas_at text.now }
     ensures written { IfOk result (λ p. text.now ≡ area_lines p.0 ++ p.1.now) }
     ensures fits { IfOk result (λ p. FitsAreas p.0) }
+    ensures stopped { IfErr result (λ left. StopsAt WithinAreas BeginsAreas text.now left) }
 {
-    let (inputs, after_inputs) = process_line_at(b"I ", text).ok_or(text.len())?;
-    let (outputs, after_outputs) = process_line_at(b"Q ", after_inputs).ok_or(after_inputs.len())?;
-    let (memory, rest) = memory_line_at(after_outputs).ok_or(after_outputs.len())?;
+    let (inputs, after_inputs) = match process_line_at(b"I ", text) {
+        Some(found) => found,
+        None => return Err(text.len()),
+    };
+    let (outputs, after_outputs) = match process_line_at(b"Q ", after_inputs) {
+        Some(found) => found,
+        None => return Err(after_inputs.len()),
+    };
+    let (memory, rest) = match memory_line_at(after_outputs) {
+        Some(found) => found,
+        None => return Err(after_outputs.len()),
+    };
     let areas = Areas {
         inputs,
         outputs,
@@ -225,7 +237,7 @@ fn entries_at<'a>(text: &'a [u8], count: usize) -> Option<&'a [u8]>
     Some(rest)
 }
 
-/// Returns how a trace of so many entries ended that has a tail, and the text after its last line.
+/// Returns how a trace of this number of entries ended that has a tail, and the text after its last line.
 #[tactic(auto, unfolding(crate::specs::Lines::last_at), using(std::proofs::Common::append_assoc))]
 pub fn last_at(text: &[u8], count: usize) -> Option<(Ending, &[u8])>
     ensures exact { option_map (λ p. (p.0, p.1.now)) result ≡ last_at count text.now }
@@ -246,7 +258,7 @@ pub fn last_at(text: &[u8], count: usize) -> Option<(Ending, &[u8])>
     Some((Ending::Stop(code), rest))
 }
 
-/// Returns how a trace of so many entries ended that has no tail, and the text after its last line.
+/// Returns how a trace of this number of entries ended that has no tail, and the text after its last line.
 #[tactic(auto, unfolding(crate::specs::Lines::cut_at), using(std::proofs::Common::append_assoc))]
 pub fn cut_at(text: &[u8], count: usize) -> Option<(Ending, &[u8])>
     ensures exact { option_map (λ p. (p.0, p.1.now)) result ≡ cut_at count text.now }

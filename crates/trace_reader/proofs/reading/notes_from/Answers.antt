@@ -5,7 +5,12 @@ use Rattle.trace_reader.specs.Text.{note_line}
 use Rattle.trace_reader.proofs.Sections.{more_after, each_more}
 use Rattle.trace_reader.proofs.ReadTail.{note_again}
 use Rattle.trace_reader.proofs.GoesOn.{one_of_many_less, none_left}
+use Rattle.trace_reader.proofs.SectionStops.{notes_stop}
 use Rattle.trace_reader.proofs.reading.notes_from.Goals as goal
+
+pub returns-in_default-clause-stopped : goal.returns-in_default-clause-stopped
+returns-in_default-clause-stopped c =
+    notes_stop c.args.text.now c.loop-turn.rest.now c.loop-turn.notes.items c.args.count c.loop-turn.invariant.whole (omega (arith, c.loop-turn.invariant.count, c.loop-turn-test.true)) c.loop-turn.invariant.fits c.in_default.ensures.exact
 
 pub returns-in_default-clause-exact : goal.returns-in_default-clause-exact
 returns-in_default-clause-exact c = λ notes rest n fit whole.
