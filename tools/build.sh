@@ -42,7 +42,7 @@ crates_at_once() {
     [ "$cores" -lt "$by_memory" ] && echo "$cores" || echo "$by_memory"
 }
 
-# lines `CRATE: CRATES THAT IT USES` of the program's crates, a crate behind those that it uses
+# lines `CRATE: CRATES THAT IT USES` of the program's crates, a crate after those that it uses
 crates_of_program() {
     awk -v program="$name" '
         function visit(name, i, n, used) {

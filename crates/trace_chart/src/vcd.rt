@@ -76,7 +76,7 @@ fn has_change(lanes: &[Lane], moment: usize) -> bool {
     lanes.iter().any(|lane| lane.change_at(moment).is_some())
 }
 
-/// Adds the lanes of a trace of so many entries, a moment for each entry.
+/// Adds the lanes of a trace of this number of entries, a moment for each entry.
 pub fn draw(page: &mut Page, lanes: &[Lane], count: usize) -> Result<(), AllocError> {
     add_head(page, lanes)?;
     for moment in 0..count {

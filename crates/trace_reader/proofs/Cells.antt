@@ -1,10 +1,11 @@
 -- An image, cell by cell.
-use Rattle.std.proofs.Common.{◌≡◌, ℕ, suc, ◌+◌, ◌-◌, ◌≤◌, ◌<◌, Bool, true, false, eqb, List, [], ◌∷◌, ◌++◌, length, length-take, length-set, take, Option, Some, cond, refl, sym, ◌∙◌, ap, arith, append_assoc}
+use Rattle.std.proofs.Common.{◌≡◌, ℕ, suc, ◌+◌, ◌-◌, ◌≤◌, ◌<◌, Bool, true, false, eqb, List, [], ◌∷◌, ◌++◌, length, length-take, length-set, take, Option, Some, cond, refl, sym, subst, ◌∙◌, ap, arith, append_assoc}
 use Rattle.std.specs.Prelude.{◌&&◌, codes, slice_set}
 use Rattle.std.proofs.lemmas.List.{append-nil, take_more_set, take_all}
 use Rattle.std.proofs.lemmas.Bool.{and_parts}
 use Rattle.std.specs.Option.{option_map}
 use Rattle.trace_reader.specs.Fields.{after}
+use Rattle.trace_reader.specs.Ranges.{AreBytes}
 use Rattle.trace_reader.specs.Images.{cell_text, cells_text, is_dark, image, byte_of, cells_from, lit_or_dash, image_at}
 
 and_true : (a : Bool) → (a && true) ≡ a
@@ -59,6 +60,16 @@ pub first_more : (bytes : List ℕ) (at byte : ℕ) (first : Bool) → at < leng
 first_more bytes at byte first below is =
     ap (λ (f : Bool). f && eqb byte 0) is ∙ sym (dark_more (take at bytes) byte) ∙ ap is_dark (sym (take_more_set bytes at byte below))
 
+each_byte : (xs : List ℕ) (b : ℕ) → AreBytes xs → b < 256 → AreBytes (xs ++ b ∷ [])
+each_byte [] b fit last = (last, tt)
+each_byte (x ∷ xs) b fit last = (fit.0, each_byte xs b fit.1 last)
+
+pub bytes_more : (bytes : List ℕ) (at byte : ℕ) → at < length bytes → AreBytes (take at bytes) → byte < 256 → AreBytes (take (at + 1) (slice_set bytes at byte))
+bytes_more bytes at byte below fit last = subst AreBytes (sym (take_more_set bytes at byte below)) (each_byte (take at bytes) byte fit last)
+
+pub bytes_all : (bytes : List ℕ) (at : ℕ) → length bytes ≤ at → AreBytes (take at bytes) → AreBytes bytes
+bytes_all bytes at all fit = subst AreBytes (take_all at bytes all) fit
+
 -- a dash where no byte was read
 pub dark_image : (text bytes rest left : List ℕ) (at : ℕ) → length bytes ≤ at → text ≡ cells_text true 0 (take at bytes) ++ rest
     → (first : Bool) → first ≡ is_dark (take at bytes) → first ≡ true → rest ≡ codes "-" ++ left → text ≡ image bytes ++ left
@@ -78,7 +89,7 @@ one_more first at count byte rest next front is =
     let later = cells_from (first && eqb byte 0) (at + 1) count next in
     rw (sym is) (ap (λ (xs : List ℕ). (xs, later.1)) (sym (append_assoc front (byte ∷ []) later.0)))
 
--- the reading goes on behind the byte that was read
+-- the reading goes on after the byte that was read
 pub cells_go_on : (text bytes rest next : List ℕ) (at byte : ℕ) (first : Bool) → at < length bytes → (byte, next) ≡ byte_of first at rest
     → with_bytes (take at bytes) (cells_from first at (length bytes - at) rest) ≡ cells_from true 0 (length bytes) text
     → with_bytes (take (at + 1) (slice_set bytes at byte)) (cells_from (first && eqb byte 0) (at + 1) (length (slice_set bytes at byte) - (at + 1)) next) ≡ cells_from true 0 (length (slice_set bytes at byte)) text

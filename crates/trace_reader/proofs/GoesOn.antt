@@ -63,8 +63,8 @@ none_left line Fits read_at all read rest end again over (y ∷ more, whole, fit
 abbrev pub EntriesLeft : List Entry → List Entry → List ℕ → List ℕ → Type 0
 EntriesLeft all read rest end = (more : List Entry) × (all ≡ read ++ more) × Each FitsEntry more × (rest ≡ entries_text (length read) more ++ end)
 
-room : (all read : List Entry) (e : Entry) (more : List Entry) → all ≡ read ++ e ∷ more → length all < 4294967296 → length read + suc (length more) ≤ 4294967296
-room all read e more whole few =
+within : (all read : List Entry) (e : Entry) (more : List Entry) → all ≡ read ++ e ∷ more → length all < 4294967296 → length read + suc (length more) ≤ 4294967295
+within all read e more whole few =
     let n : length all ≡ length read + suc (length more) = ap length whole ∙ length-append read (e ∷ more) in
     omega (arith, n, few)
 
@@ -79,21 +79,21 @@ entry_less all read rest end next x few closes found ([], whole, fit, here) = ab
     clash e = absurd cc
 entry_less all read rest end next x few closes found (y ∷ more, whole, fit, here) =
     let k = length read in
-    let taken = pair_is y x (entries_text (k + 1) more ++ end) next (sym (first_entry k y more end (room all read y more whole few) fit.0 closes) ∙ sym (ap (entry_at k) here) ∙ found) in
+    let taken = pair_is y x (entries_text (k + 1) more ++ end) next (sym (first_entry k y more end (within all read y more whole few) fit.0 closes) ∙ sym (ap (entry_at k) here) ∙ found) in
     (more, whole ∙ ap (λ (z : Entry). read ++ z ∷ more) taken.0 ∙ sym (append_assoc read (x ∷ []) more), fit.1, sym taken.1 ∙ ap (λ (n : ℕ). entries_text n more ++ end) (sym (one_longer read x)))
 
 pub no_entry_left : (all read : List Entry) (rest end : List ℕ) → length all < 4294967296 → ClosesEntries end
     → entry_at (length read) rest ≡ None → EntriesLeft all read rest end → (read ≡ all) × (rest ≡ end)
 no_entry_left all read rest end few closes over ([], whole, fit, here) = (sym (whole ∙ append-nil read), here)
 no_entry_left all read rest end few closes over (y ∷ more, whole, fit, here) =
-    absurd (clash (sym (first_entry (length read) y more end (room all read y more whole few) fit.0 closes) ∙ sym (ap (entry_at (length read)) here) ∙ over))
+    absurd (clash (sym (first_entry (length read) y more end (within all read y more whole few) fit.0 closes) ∙ sym (ap (entry_at (length read)) here) ∙ over))
   where
     clash : read_as y (entries_text (length read + 1) more ++ end) ≡ None → ⊥
     clash e = absurd cc
 
--- ---- so many lines
+-- ---- a given number of lines
 
--- one of so many lines was read
+-- one of a given number of lines was read
 pub one_of_many_less : {A : Type 0} (line : A → List ℕ) (Fits : A → Type 0) (read_at : List ℕ → Option (A × List ℕ)) (all read : List A) (rest end next : List ℕ) (x : A)
     → ((y : A) (after : List ℕ) → Fits y → read_at (line y ++ after) ≡ Some (y, after)) → length read < length all
     → read_at rest ≡ Some (x, next) → Left line Fits all read rest end → Left line Fits all (read ++ x ∷ []) next end
@@ -104,7 +104,7 @@ one_of_many_less {A} line Fits read_at all read rest end next x again short foun
     let taken = pair_is y x (flat_map line more ++ end) next (sym (again y (flat_map line more ++ end) fit.0) ∙ sym (ap read_at (here ∙ append_assoc (line y) (flat_map line more) end)) ∙ found) in
     (more, whole ∙ ap (λ (z : A). read ++ z ∷ more) taken.0 ∙ sym (append_assoc read (x ∷ []) more), fit.1, sym taken.1)
 
--- the last of so many lines was read
+-- the last of a given number of lines was read
 pub many_done : {A : Type 0} (line : A → List ℕ) (Fits : A → Type 0) (all read : List A) (rest end : List ℕ) → length all ≤ length read → Left line Fits all read rest end → rest ≡ end
 many_done line Fits all read rest end full ([], whole, fit, here) = here
 many_done line Fits all read rest end full (y ∷ more, whole, fit, here) =

@@ -1,10 +1,15 @@
 pub mod Cells
+pub mod EntryStops
 pub mod Fronts
 pub mod GoesOn
+pub mod LineEnds
 pub mod Numbers
 pub mod ReadBack
 pub mod ReadEntries
 pub mod ReadLines
 pub mod ReadTail
+pub mod SectionStops
 pub mod Sections
+pub mod TailStops
+pub mod TraceStops
 pub mod Wholes

@@ -23,16 +23,16 @@ use Rattle.trace_reader.proofs.ReadLines.{number_before, number_then, request_ag
 abbrev pub NoShowing : List ℕ → Type 0
 NoShowing rest = (after (codes "SHOW ") rest ≡ None) × (after (codes "AGAIN ") rest ≡ None)
 
-abbrev bare : Entry → Entry
+abbrev pub bare : Entry → Entry
 bare entry = record { priority = entry.priority; request = entry.request; answer = entry.answer; shown = showings.None }
 
-asked_again : (k : ℕ) (entry : Entry) (rest : List ℕ) → k < 4294967296 → FitsEntry entry → asked_at k (entry_line k entry ++ rest) ≡ Some (bare entry, rest)
+pub asked_again : (k : ℕ) (entry : Entry) (rest : List ℕ) → k < 4294967295 → FitsEntry entry → asked_at k (entry_line k entry ++ rest) ≡ Some (bare entry, rest)
 unfolding asked_at
 asked_again k entry rest few fits =
     let ending = answer_text entry.answer ++ codes "\n" in
     let answered = codes " = " ++ ending in
     let asked = codes " " ++ (request_text entry.request ++ answered) in
-    let n : number_before 4294967295 k (codes " " ++ (decimal entry.priority ++ asked)) rest = number_then 4294967295 k (codes " " ++ (decimal entry.priority ++ asked)) rest (omega (arith, few)) few refl in
+    let n : number_before 4294967294 k (codes " " ++ (decimal entry.priority ++ asked)) rest = number_then 4294967294 k (codes " " ++ (decimal entry.priority ++ asked)) rest (omega (arith, few)) (omega (arith, few)) refl in
     let same : eqb k k ≡ true = eq-eqb k k refl in
     let p : number_before 255 entry.priority asked rest = number_then 255 entry.priority asked rest (omega (arith, fits.0)) (omega (arith, fits.0)) refl in
     let r : request_at ((request_text entry.request ++ answered) ++ rest) ≡ Some (entry.request, answered ++ rest) =
@@ -60,7 +60,7 @@ showings_again entry rest (inr none) quiet = rw none (by_output (is_output entry
     by_output true = shown_again showings.None rest quiet
     by_output false = refl
 
-pub entry_again : (k : ℕ) (entry : Entry) (rest : List ℕ) → k < 4294967296 → FitsEntry entry → NoShowing rest → entry_at k (entry_line k entry ++ (shown_lines entry.shown ++ rest)) ≡ Some (entry, rest)
+pub entry_again : (k : ℕ) (entry : Entry) (rest : List ℕ) → k < 4294967295 → FitsEntry entry → NoShowing rest → entry_at k (entry_line k entry ++ (shown_lines entry.shown ++ rest)) ≡ Some (entry, rest)
 unfolding entry_at
 entry_again k entry rest few fits quiet =
     rw (asked_again k entry (shown_lines entry.shown ++ rest) few fits, showings_again entry rest fits.3 quiet) refl
@@ -93,17 +93,21 @@ entry_no_showing k more rest few =
       ap (after (codes "AGAIN ")) joined ∙ no_word 65 (codes "GAIN ") (decimal k) (more ++ rest) refl some digits,
     )
 
-entries_no_showing : (k : ℕ) (entries : List Entry) (rest : List ℕ) → k + length entries ≤ 4294967296 → ClosesEntries rest → NoShowing (entries_text k entries ++ rest)
-entries_no_showing k [] rest few closes = (closes.1, closes.2)
-entries_no_showing k (entry ∷ entries) rest few closes =
+-- entries begin with no showing, whatever follows them
+pub entries_begin_quiet : (k : ℕ) (entry : Entry) (entries : List Entry) (rest : List ℕ) → k < 4294967296 → NoShowing (entries_text k (entry ∷ entries) ++ rest)
+entries_begin_quiet k entry entries rest few =
     let line = codes " " ++ (decimal entry.priority ++ (codes " " ++ (request_text entry.request ++ (codes " = " ++ (answer_text entry.answer ++ codes "\n"))))) in
     let later = shown_lines entry.shown ++ entries_text (k + 1) entries in
     let joined : ((decimal k ++ line) ++ later) ++ rest ≡ (decimal k ++ line) ++ (later ++ rest) = append_assoc (decimal k ++ line) later rest in
-    let quiet = entry_no_showing k line (later ++ rest) (omega (arith, few)) in
+    let quiet = entry_no_showing k line (later ++ rest) few in
     (ap (after (codes "SHOW ")) joined ∙ quiet.0, ap (after (codes "AGAIN ")) joined ∙ quiet.1)
 
+entries_no_showing : (k : ℕ) (entries : List Entry) (rest : List ℕ) → k + length entries ≤ 4294967295 → ClosesEntries rest → NoShowing (entries_text k entries ++ rest)
+entries_no_showing k [] rest few closes = (closes.1, closes.2)
+entries_no_showing k (entry ∷ entries) rest few closes = entries_begin_quiet k entry entries rest (omega (arith, few))
+
 -- the first of some entries is read
-pub first_entry : (k : ℕ) (entry : Entry) (entries : List Entry) (rest : List ℕ) → k + suc (length entries) ≤ 4294967296 → FitsEntry entry → ClosesEntries rest
+pub first_entry : (k : ℕ) (entry : Entry) (entries : List Entry) (rest : List ℕ) → k + suc (length entries) ≤ 4294967295 → FitsEntry entry → ClosesEntries rest
     → entry_at k (entries_text k (entry ∷ entries) ++ rest) ≡ Some (entry, entries_text (k + 1) entries ++ rest)
 first_entry k entry entries rest few fits closes =
     let later = entries_text (k + 1) entries in

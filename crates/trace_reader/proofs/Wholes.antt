@@ -6,8 +6,8 @@ use Rattle.std.proofs.lemmas.List.{append-nil}
 use Rattle.trace_reader.specs.declared.trace.Ending.{Ending}
 use Rattle.trace_reader.specs.declared.trace.Ending.TheVariants as endings
 use Rattle.trace_reader.specs.declared.trace.Counter.{Counter}
-use Rattle.trace_reader.specs.declared.trace.Tail.{Tail}
 use Rattle.trace_reader.specs.Fields.{after}
+use Rattle.trace_reader.specs.Parts.{TailParts}
 use Rattle.trace_reader.specs.Text.{note_line, area_lines, block_line, counter_line, count_line, notes_and_after, tail_lines, last_line}
 use Rattle.trace_reader.specs.Lines.{count_at, ending_at}
 use Rattle.trace_reader.specs.Ranges.{FitsTail, FitsEnding, ClosesEntries, ClosesTail}
@@ -20,40 +20,40 @@ counters_close [] rest closed = closed
 counters_close (counter ∷ counters) rest closed = refl
 
 -- the notes of a tail and what follows them, before this text
-abbrev pub tail_before : Tail → List ℕ → List ℕ
+abbrev pub tail_before : TailParts → List ℕ → List ℕ
 tail_before tail rest =
-    flat_map note_line tail.notes.items ++ (area_lines tail.areas ++ (flat_map block_line tail.blocks.items ++ (flat_map counter_line tail.counters.items ++ rest)))
+    flat_map note_line tail.notes ++ (area_lines tail.areas ++ (flat_map block_line tail.blocks ++ (flat_map counter_line tail.counters ++ rest)))
 
-tail_joined : (tail : Tail) (rest : List ℕ) → notes_and_after tail ++ rest ≡ tail_before tail rest
+tail_joined : (tail : TailParts) (rest : List ℕ) → notes_and_after tail ++ rest ≡ tail_before tail rest
 tail_joined tail rest =
-    let notes = flat_map note_line tail.notes.items in
+    let notes = flat_map note_line tail.notes in
     let areas = area_lines tail.areas in
-    let blocks = flat_map block_line tail.blocks.items in
-    let counters = flat_map counter_line tail.counters.items in
+    let blocks = flat_map block_line tail.blocks in
+    let counters = flat_map counter_line tail.counters in
     append_assoc notes (areas ++ (blocks ++ counters)) rest
     ∙ ap (λ (t : List ℕ). notes ++ t) (append_assoc areas (blocks ++ counters) rest ∙ ap (λ (t : List ℕ). areas ++ t) (append_assoc blocks counters rest))
 
-count_read : (tail : Tail) (text rest : List ℕ) → FitsTail (Some tail) → text ≡ tail_lines (Some tail) ++ rest → count_at text ≡ Some (length tail.notes.items, notes_and_after tail ++ rest)
+count_read : (tail : TailParts) (text rest : List ℕ) → FitsTail (Some tail) → text ≡ tail_lines (Some tail) ++ rest → count_at text ≡ Some (length tail.notes, notes_and_after tail ++ rest)
 count_read tail text rest fits whole =
-    ap count_at (whole ∙ append_assoc (count_line (length tail.notes.items)) (notes_and_after tail) rest) ∙ count_again (length tail.notes.items) (notes_and_after tail ++ rest) fits.0
+    ap count_at (whole ∙ append_assoc (count_line (length tail.notes)) (notes_and_after tail) rest) ∙ count_again (length tail.notes) (notes_and_after tail ++ rest) fits.0
 
-pub no_tail : (text : List ℕ) (tail : Option Tail) (rest : List ℕ) → None ≡ count_at text → FitsTail tail → text ≡ tail_lines tail ++ rest → (false ≡ is_some tail) × (text ≡ rest)
+pub no_tail : (text : List ℕ) (tail : Option TailParts) (rest : List ℕ) → None ≡ count_at text → FitsTail tail → text ≡ tail_lines tail ++ rest → (false ≡ is_some tail) × (text ≡ rest)
 no_tail text None rest none fits whole = (refl, whole)
 no_tail text (Some tail) rest none fits whole =
-    absurd (no_reading (length tail.notes.items) (notes_and_after tail ++ rest) (count_at text) none (count_read tail text rest fits whole))
+    absurd (no_reading (length tail.notes) (notes_and_after tail ++ rest) (count_at text) none (count_read tail text rest fits whole))
 
-abbrev pub HasTail : ℕ → List ℕ → Option Tail → List ℕ → Type 0
-HasTail count later tail rest = (t : Tail) × (length t.notes.items ≡ count) × FitsTail (Some t) × (later ≡ tail_before t rest) × (true ≡ is_some tail)
+abbrev pub HasTail : ℕ → List ℕ → Option TailParts → List ℕ → Type 0
+HasTail count later tail rest = (t : TailParts) × (length t.notes ≡ count) × FitsTail (Some t) × (later ≡ tail_before t rest) × (true ≡ is_some tail)
 
-no_count : (rest : List ℕ) → after (codes "DIAG ") rest ≡ None → count_at rest ≡ None
+pub no_count : (rest : List ℕ) → after (codes "DIAG ") rest ≡ None → count_at rest ≡ None
 unfolding count_at
 no_count rest closed = rw closed refl
 
-pub has_tail : (text : List ℕ) (count : ℕ) (later : List ℕ) (tail : Option Tail) (rest : List ℕ) → Some (count, later) ≡ count_at text → FitsTail tail → ClosesTail rest → text ≡ tail_lines tail ++ rest → HasTail count later tail rest
+pub has_tail : (text : List ℕ) (count : ℕ) (later : List ℕ) (tail : Option TailParts) (rest : List ℕ) → Some (count, later) ≡ count_at text → FitsTail tail → ClosesTail rest → text ≡ tail_lines tail ++ rest → HasTail count later tail rest
 has_tail text count later None rest some fits closes whole =
     absurd (no_reading count later (count_at text) (sym (ap count_at whole ∙ no_count rest closes.0)) (sym some))
 has_tail text count later (Some tail) rest some fits closes whole =
-    let same = pair_is count (length tail.notes.items) later (notes_and_after tail ++ rest) (some ∙ count_read tail text rest fits whole) in
+    let same = pair_is count (length tail.notes) later (notes_and_after tail ++ rest) (some ∙ count_read tail text rest fits whole) in
     (tail, sym same.0, fits, same.1 ∙ tail_joined tail rest, refl)
 
 pub last_closes : (ending : Ending) (count : ℕ) → ClosesTail (last_line ending count)
@@ -62,14 +62,14 @@ last_closes (endings.Stop code) count = (refl, refl, refl)
 last_closes endings.NoneLeft count = (refl, refl, refl)
 last_closes endings.Spent count = (refl, refl, refl)
 
-pub entries_close : (tail : Option Tail) (ending : Ending) (count : ℕ) → FitsEnding tail ending → ClosesEntries (tail_lines tail ++ last_line ending count)
-entries_close (Some tail) ending count fits = (number_at_none 4294967295 (tail_lines (Some tail) ++ last_line ending count) refl, refl, refl)
+pub entries_close : (tail : Option TailParts) (ending : Ending) (count : ℕ) → FitsEnding tail ending → ClosesEntries (tail_lines tail ++ last_line ending count)
+entries_close (Some tail) ending count fits = (number_at_none 4294967294 (tail_lines (Some tail) ++ last_line ending count) refl, refl, refl)
 entries_close None endings.End count fits = absurd fits
 entries_close None (endings.Stop code) count fits = absurd fits
-entries_close None endings.NoneLeft count fits = (number_at_none 4294967295 (last_line endings.NoneLeft count) refl, refl, refl)
-entries_close None endings.Spent count fits = (number_at_none 4294967295 (last_line endings.Spent count) refl, refl, refl)
+entries_close None endings.NoneLeft count fits = (number_at_none 4294967294 (last_line endings.NoneLeft count) refl, refl, refl)
+entries_close None endings.Spent count fits = (number_at_none 4294967294 (last_line endings.Spent count) refl, refl, refl)
 
-ending_once : (tail : Option Tail) (ending : Ending) (count : ℕ) → FitsEnding tail ending → count < 4294967296 → ending_at (is_some tail) count (last_line ending count ++ []) ≡ Some (ending, [])
+ending_once : (tail : Option TailParts) (ending : Ending) (count : ℕ) → FitsEnding tail ending → count < 4294967296 → ending_at (is_some tail) count (last_line ending count ++ []) ≡ Some (ending, [])
 ending_once (Some tail) endings.End count fits few = end_again count [] few
 ending_once (Some tail) (endings.Stop code) count fits few = stopped_again code count [] few
 ending_once (Some tail) endings.NoneLeft count fits few = absurd fits
@@ -79,7 +79,7 @@ ending_once None (endings.Stop code) count fits few = absurd fits
 ending_once None endings.NoneLeft count fits few = none_again count [] few
 ending_once None endings.Spent count fits few = spent_again count [] few
 
-pub ending_again : (tail : Option Tail) (ending : Ending) (count read : ℕ) (found : Bool) (text : List ℕ) → FitsEnding tail ending → count < 4294967296
+pub ending_again : (tail : Option TailParts) (ending : Ending) (count read : ℕ) (found : Bool) (text : List ℕ) → FitsEnding tail ending → count < 4294967296
     → found ≡ is_some tail → read ≡ count → text ≡ last_line ending count → ending_at found read text ≡ Some (ending, [])
 ending_again tail ending count read found text fits few same number whole =
     ap (λ (b : Bool). ending_at b read text) same ∙ ap (λ (n : ℕ). ending_at (is_some tail) n text) number

@@ -45,7 +45,7 @@ byte_or_dark text None = (0, text)
 unfoldable pub byte_of : Bool → ℕ → List ℕ → ℕ × List ℕ
 byte_of is_first at text = byte_or_dark text (cell_at is_first at text)
 
--- the bytes of so many addresses from this one on
+-- the bytes of this number of addresses from this one on
 unfoldable pub cells_from : Bool → ℕ → ℕ → List ℕ → List ℕ × List ℕ
 cells_from is_first at zero text = ([], text)
 cells_from is_first at (suc count) text =
@@ -57,6 +57,6 @@ cells_from is_first at (suc count) text =
 abbrev pub lit_or_dash : List ℕ × List ℕ → Option (List ℕ × List ℕ)
 lit_or_dash cells = if is_dark cells.0 then option_map (λ rest. (cells.0, rest)) (after (codes "-") cells.1) else Some cells
 
--- an image of so many bytes
+-- an image of this number of bytes
 unfoldable pub image_at : ℕ → List ℕ → Option (List ℕ × List ℕ)
 image_at count text = lit_or_dash (cells_from true 0 count text)

@@ -2,6 +2,7 @@ pub mod Blocks
 pub mod Fields
 pub mod Images
 pub mod Lines
+pub mod Parts
 pub mod Ranges
 pub mod Refusal
 pub mod Requests

@@ -59,7 +59,7 @@ showings_at request answer text = if is_output request answer then shown_at text
 -- the line of entry k
 unfoldable pub asked_at : ℕ → List ℕ → Option (Entry × List ℕ)
 asked_at k text = do
-  number ← number_at 4294967295 text
+  number ← number_at 4294967294 text
   rest ← if number.0 == k then after (codes " ") number.1 else None
   priority ← number_at 255 rest
   ask ← after (codes " ") priority.1
@@ -94,7 +94,7 @@ note_at text = do
   rest ← after (codes "\n") event.1
   Some (record { moment = moment.0; event = event.0 }, rest)
 
--- the image of so many bytes after this name
+-- the image of this number of bytes after this name
 unfoldable pub image_line_at : List ℕ → ℕ → List ℕ → Option (List ℕ × List ℕ)
 image_line_at name count text = do
   begin ← after name text
@@ -159,6 +159,6 @@ unfoldable pub cut_at : ℕ → List ℕ → Option (Ending × List ℕ)
 cut_at count text =
     past (codes "NONE ") text (plain_end endings.NoneLeft count) (past (codes "SPENT ") text (plain_end endings.Spent count) None)
 
--- the last line of a trace of so many entries
+-- the last line of a trace of this number of entries
 abbrev pub ending_at : Bool → ℕ → List ℕ → Option (Ending × List ℕ)
 ending_at has_tail count text = if has_tail then last_at count text else cut_at count text

@@ -1,5 +1,5 @@
 -- The traces: their numbers lie within their ranges, showings stand after outputs alone, and the end fits the tail.
-use Rattle.std.specs.Prelude.{◌≡◌, ℕ, ◌<◌, ◌⊎◌, ⊤, true, List, [], ◌∷◌, length, Option, Some, None, codes}
+use Rattle.std.specs.Prelude.{◌≡◌, ℕ, ◌<◌, ◌⊎◌, ⊤, Bool, true, false, is_some, List, [], ◌∷◌, ◌++◌, length, Option, Some, None, codes}
 use Rattle.trace_reader.specs.declared.trace.Width.{Width}
 use Rattle.trace_reader.specs.declared.trace.Width.TheVariants.{Byte, Word, Double}
 use Rattle.trace_reader.specs.declared.trace.JobArea.{JobArea}
@@ -18,17 +18,17 @@ use Rattle.trace_reader.specs.declared.trace.Counter.{Counter}
 use Rattle.trace_reader.specs.declared.trace.Ending.{Ending}
 use Rattle.trace_reader.specs.declared.trace.Ending.TheVariants as endings
 use Rattle.trace_reader.specs.declared.trace.Areas.{Areas}
-use Rattle.trace_reader.specs.declared.trace.Tail.{Tail}
-use Rattle.trace_reader.specs.declared.trace.Trace.{Trace}
 use Rattle.trace_reader.specs.Blocks.{DataBlock}
+use Rattle.trace_reader.specs.Parts.{TailParts, TraceParts}
 use Rattle.trace_reader.specs.Fields.{after, number_at}
-use Rattle.trace_reader.specs.Lines.{is_output}
+use Rattle.trace_reader.specs.Lines.{is_output, showings_at}
+use Rattle.trace_reader.specs.Text.{shown_lines}
 
 abbrev pub AreBytes : List ℕ → Type 0
 AreBytes [] = ⊤
 AreBytes (byte ∷ bytes) = (byte < 256) × AreBytes bytes
 
--- an image of so many bytes
+-- an image of this number of bytes
 abbrev pub IsImage : ℕ → List ℕ → Type 0
 IsImage count bytes = (length bytes ≡ count) × AreBytes bytes
 
@@ -71,6 +71,12 @@ FitsShowings entry = (is_output entry.request entry.answer ≡ true) ⊎ (entry.
 abbrev pub FitsEntry : Entry → Type 0
 FitsEntry entry = (entry.priority < 256) × FitsRequest entry.request × FitsAnswer entry.answer × FitsShowings entry
 
+-- no showing of the last entry is left in this text
+abbrev pub EndShowings : List Entry → List ℕ → Type 0
+EndShowings [] text = ⊤
+EndShowings (entry ∷ []) text = showings_at entry.request entry.answer (shown_lines entry.shown ++ text) ≡ (entry.shown, text)
+EndShowings (entry ∷ next ∷ entries) text = EndShowings (next ∷ entries) text
+
 -- each of a list
 abbrev pub Each : {A : Type 0} → (A → Type 0) → List A → Type 0
 Each Fits [] = ⊤
@@ -94,27 +100,30 @@ FitsBlock block = (block.number < 256) × IsImage 65536 block.bytes
 abbrev pub FitsCounter : Counter → Type 0
 FitsCounter counter = (counter.number < 256) × (counter.value < 65536)
 
-abbrev pub FitsTail : Option Tail → Type 0
+abbrev pub FitsTail : Option TailParts → Type 0
 FitsTail None = ⊤
 FitsTail (Some tail) =
-    (length tail.notes.items < 4294967296) × Each FitsNote tail.notes.items × FitsAreas tail.areas
-    × Each FitsBlock tail.blocks.items × Each FitsCounter tail.counters.items
+    (length tail.notes < 4294967296) × Each FitsNote tail.notes × FitsAreas tail.areas
+    × Each FitsBlock tail.blocks × Each FitsCounter tail.counters
 
--- END and STOP with a tail, NONE and SPENT without
-abbrev pub FitsEnding : Option Tail → Ending → Type 0
-FitsEnding (Some tail) endings.End = ⊤
-FitsEnding (Some tail) (endings.Stop code) = ⊤
-FitsEnding None endings.NoneLeft = ⊤
-FitsEnding None endings.Spent = ⊤
-FitsEnding _ _ = ⊥
+-- END and STOP end a trace that has a tail, NONE and SPENT one that has none
+abbrev pub EndsAs : Bool → Ending → Type 0
+EndsAs true endings.End = ⊤
+EndsAs true (endings.Stop code) = ⊤
+EndsAs false endings.NoneLeft = ⊤
+EndsAs false endings.Spent = ⊤
+EndsAs _ _ = ⊥
 
-abbrev pub IsTrace : Trace → Type 0
+abbrev pub FitsEnding : Option TailParts → Ending → Type 0
+FitsEnding tail ending = EndsAs (is_some tail) ending
+
+abbrev pub IsTrace : TraceParts → Type 0
 IsTrace trace =
-    (length trace.entries.items < 4294967296) × Each FitsEntry trace.entries.items × FitsTail trace.tail × FitsEnding trace.tail trace.ending
+    (length trace.entries < 4294967296) × Each FitsEntry trace.entries × FitsTail trace.tail × FitsEnding trace.tail trace.ending
 
 -- no entry and no showing begins here
 abbrev pub ClosesEntries : List ℕ → Type 0
-ClosesEntries rest = (number_at 4294967295 rest ≡ None) × (after (codes "SHOW ") rest ≡ None) × (after (codes "AGAIN ") rest ≡ None)
+ClosesEntries rest = (number_at 4294967294 rest ≡ None) × (after (codes "SHOW ") rest ≡ None) × (after (codes "AGAIN ") rest ≡ None)
 
 -- no tail, no data block and no counter begins here
 abbrev pub ClosesTail : List ℕ → Type 0

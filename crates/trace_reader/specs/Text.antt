@@ -29,11 +29,10 @@ use Rattle.trace_reader.specs.declared.trace.Counter.{Counter}
 use Rattle.trace_reader.specs.declared.trace.Ending.{Ending}
 use Rattle.trace_reader.specs.declared.trace.Ending.TheVariants as endings
 use Rattle.trace_reader.specs.declared.trace.Areas.{Areas}
-use Rattle.trace_reader.specs.declared.trace.Tail.{Tail}
-use Rattle.trace_reader.specs.declared.trace.Trace.{Trace}
 use Rattle.trace_reader.specs.Blocks.{DataBlock}
 use Rattle.trace_reader.specs.Fields.{hex_byte, hex_word, hex_double}
 use Rattle.trace_reader.specs.Images.{image}
+use Rattle.trace_reader.specs.Parts.{TailParts, TraceParts}
 
 abbrev pub side_text : Side → List ℕ
 side_text sides.A = codes "A"
@@ -168,16 +167,16 @@ abbrev pub count_line : ℕ → List ℕ
 count_line count = codes "DIAG " ++ (decimal count ++ codes "\n")
 
 -- the diagnostic entries and what stands after them: the images, the data blocks and the counters
-abbrev pub notes_and_after : Tail → List ℕ
+abbrev pub notes_and_after : TailParts → List ℕ
 notes_and_after tail =
-    flat_map note_line tail.notes.items
-    ++ (area_lines tail.areas ++ (flat_map block_line tail.blocks.items ++ flat_map counter_line tail.counters.items))
+    flat_map note_line tail.notes
+    ++ (area_lines tail.areas ++ (flat_map block_line tail.blocks ++ flat_map counter_line tail.counters))
 
 -- the number of the diagnostic entries, and the tail's other lines
-abbrev pub tail_lines : Option Tail → List ℕ
+abbrev pub tail_lines : Option TailParts → List ℕ
 tail_lines None = []
 tail_lines (Some tail) =
-    count_line (length tail.notes.items) ++ notes_and_after tail
+    count_line (length tail.notes) ++ notes_and_after tail
 
 -- how the trace ended, and the number of its entries
 abbrev pub last_line : Ending → ℕ → List ℕ
@@ -191,7 +190,7 @@ title_line Solo = codes "TRACE 1 SOLO\n"
 title_line Pair = codes "TRACE 1 PAIR\n"
 
 -- the whole text: the first line, the entries, the tail and the last line
-abbrev pub text_of : Trace → List ℕ
+abbrev pub text_of : TraceParts → List ℕ
 text_of trace =
     title_line trace.mode
-    ++ (entries_text 0 trace.entries.items ++ (tail_lines trace.tail ++ last_line trace.ending (length trace.entries.items)))
+    ++ (entries_text 0 trace.entries ++ (tail_lines trace.tail ++ last_line trace.ending (length trace.entries)))

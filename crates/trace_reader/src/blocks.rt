@@ -6,7 +6,7 @@ ghost use Rattle.trace_reader.specs.declared.trace.Counter.{Counter};
 ghost use Rattle.trace_reader.specs.Blocks.{DataBlock};
 ghost use Rattle.trace_reader.specs.Fields.{after};
 ghost use Rattle.trace_reader.specs.Ranges.{Each, FitsBlock, FitsCounter};
-ghost use Rattle.trace_reader.specs.Lines.{block_at};
+ghost use Rattle.trace_reader.specs.Lines.{block_at, counter_at};
 ghost use Rattle.trace_reader.specs.Text.{block_line, counter_line};
 
 use crate::fields::after;
@@ -24,6 +24,7 @@ const BLOCK_BYTES: usize = 65_536;
 fn block_at(alloc: Global, text: &[u8]) -> Result<Option<(Block, &[u8])>, AllocError>
     ensures exact { IfOk result (λ found. option_map (λ p. (p.0, p.1.now)) found ≡ block_at text.now) }
     ensures written { IfOk result (λ found. IfSome found (λ p. text.now ≡ block_line p.0 ++ p.1.now)) }
+    ensures fits { IfOk result (λ found. IfSome found (λ p. FitsBlock p.0)) }
     ensures shorter { IfOk result (λ found. IfSome found (λ p. length p.1.now < length text.now)) }
 {
     let Some(rest) = after(b"DB ", text) else {
@@ -49,6 +50,8 @@ fn block_at(alloc: Global, text: &[u8]) -> Result<Option<(Block, &[u8])>, AllocE
 #[tactic(auto, using(crate::proofs::Sections::more_after, std::proofs::Common::append_assoc))]
 pub fn blocks_from(alloc: Global, text: &[u8]) -> Result<(Vec<Block>, &[u8]), AllocError>
     ensures written { IfOk result (λ p. text.now ≡ flat_map block_line p.0.items ++ p.1.now) }
+    ensures fits { IfOk result (λ p. Each FitsBlock p.0.items) }
+    ensures over { IfOk result (λ p. block_at p.1.now ≡ None) }
     ensures exact { (blocks : List DataBlock) (rest : List ℕ) → Each FitsBlock blocks → after (codes "DB ") rest ≡ None → text.now ≡ flat_map block_line blocks ++ rest → IfOk result (λ p. p.1.now ≡ rest) }
 {
     let mut blocks = Vec::new(alloc);
@@ -64,6 +67,8 @@ pub fn blocks_from(alloc: Global, text: &[u8]) -> Result<(Vec<Block>, &[u8]), Al
 #[tactic(auto, using(crate::proofs::Sections::more_after, std::proofs::Common::append_assoc))]
 pub fn counters_from(alloc: Global, text: &[u8]) -> Result<(Vec<Counter>, &[u8]), AllocError>
     ensures written { IfOk result (λ p. text.now ≡ flat_map counter_line p.0.items ++ p.1.now) }
+    ensures fits { IfOk result (λ p. Each FitsCounter p.0.items) }
+    ensures over { IfOk result (λ p. counter_at p.1.now ≡ None) }
     ensures exact { (counters : List Counter) (rest : List ℕ) → Each FitsCounter counters → after (codes "C ") rest ≡ None → text.now ≡ flat_map counter_line counters ++ rest → IfOk result (λ p. p.1.now ≡ rest) }
 {
     let mut counters = Vec::new(alloc);

@@ -81,6 +81,7 @@ fn digit_value(digit: u8) -> Option<u8>
 pub fn byte_at(text: &[u8]) -> Option<(u8, &[u8])>
     ensures exact { option_map (λ p. (p.0, p.1.now)) result ≡ byte_at text.now }
     ensures written { IfSome result (λ p. text.now ≡ hex_byte p.0 ++ p.1.now) }
+    ensures within { IfSome result (λ p. p.0 < 256) }
 {
     match text {
         [high, low, rest @ ..] => {
@@ -109,6 +110,7 @@ pub fn word_value_at(text: &[u8]) -> Option<(u16, &[u8])>
 pub fn double_at(text: &[u8]) -> Option<(u32, &[u8])>
     ensures exact { option_map (λ p. (p.0, p.1.now)) result ≡ double_at text.now }
     ensures written { IfSome result (λ p. text.now ≡ hex_double p.0 ++ p.1.now) }
+    ensures within { IfSome result (λ p. p.0 < 4294967296) }
 {
     let (high, rest) = word_value_at(text)?;
     let (low, rest) = word_value_at(rest)?;

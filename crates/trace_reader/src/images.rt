@@ -1,6 +1,7 @@
 //! Images: bytes that are written by their addresses.
-ghost use Rattle.std.specs.Prelude.{◌≡◌, ◌++◌, ◌&&◌, ◌==◌, length, IfSome};
+ghost use Rattle.std.specs.Prelude.{◌≡◌, ◌<◌, ◌++◌, ◌&&◌, ◌==◌, length, IfSome};
 ghost use Rattle.std.specs.Option.{option_map};
+ghost use Rattle.trace_reader.specs.Ranges.{AreBytes, IsImage};
 ghost use Rattle.trace_reader.specs.Images.{cell_text, image, cell_at, byte_of, image_at};
 
 use crate::fields::{after, byte_at, number_at};
@@ -11,6 +12,7 @@ use crate::fields::{after, byte_at, number_at};
 fn cell_at(text: &[u8], is_first: bool, at: usize) -> Option<(u8, &[u8])>
     ensures exact { option_map (λ p. (p.0, p.1.now)) result ≡ cell_at is_first at text.now }
     ensures written { IfSome result (λ p. text.now ≡ cell_text is_first at p.0 ++ p.1.now) }
+    ensures within { IfSome result (λ p. p.0 < 256) }
 {
     let begin = if is_first { text } else { after(b",", text)? };
     let (address, rest) = number_at(begin, 65_535)?;
@@ -27,6 +29,7 @@ fn cell_at(text: &[u8], is_first: bool, at: usize) -> Option<(u8, &[u8])>
 fn byte_of(text: &[u8], is_first: bool, at: usize) -> (u8, &[u8])
     ensures exact { (result.0, result.1.now) ≡ byte_of is_first at text.now }
     ensures written { text.now ≡ cell_text is_first at result.0 ++ result.1.now }
+    ensures within { result.0 < 256 }
 {
     match cell_at(text, is_first, at) {
         Some(found) => found,
@@ -45,6 +48,7 @@ fn still_first(is_first: bool, byte: u8) -> bool
 pub fn image_at<'a>(bytes: &mut [u8], text: &'a [u8]) -> Option<&'a [u8]>
     ensures exact { option_map (λ rest. (bytes.new, rest.now)) result ≡ image_at (length bytes.old) text.now }
     ensures written { IfSome result (λ rest. text.now ≡ image bytes.new ++ rest.now) }
+    ensures fits { IfSome result (λ rest. AreBytes bytes.new) }
 {
     let mut rest = text;
     let mut is_first = true;
@@ -65,6 +69,7 @@ pub fn image_at<'a>(bytes: &mut [u8], text: &'a [u8]) -> Option<&'a [u8]>
 pub fn process_image_at(text: &[u8]) -> Option<([u8; 64], &[u8])>
     ensures exact { option_map (λ p. (p.0, p.1.now)) result ≡ image_at 64 text.now }
     ensures written { IfSome result (λ p. text.now ≡ image p.0 ++ p.1.now) }
+    ensures fits { IfSome result (λ p. IsImage 64 p.0) }
 {
     let mut bytes = [0; 64];
     let rest = image_at(&mut bytes, text)?;
@@ -75,6 +80,7 @@ pub fn process_image_at(text: &[u8]) -> Option<([u8; 64], &[u8])>
 pub fn memory_image_at(text: &[u8]) -> Option<([u8; 1024], &[u8])>
     ensures exact { option_map (λ p. (p.0, p.1.now)) result ≡ image_at 1024 text.now }
     ensures written { IfSome result (λ p. text.now ≡ image p.0 ++ p.1.now) }
+    ensures fits { IfSome result (λ p. IsImage 1024 p.0) }
 {
     let mut bytes = [0; 1024];
     let rest = image_at(&mut bytes, text)?;

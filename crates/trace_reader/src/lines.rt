@@ -1,10 +1,13 @@
 //! The lines of a trace, each at the front of a text.
-ghost use Rattle.std.specs.Prelude.{◌≡◌, ◌∷◌, ◌++◌, ◌<◌, length, codes, IfOk, IfSome};
+ghost use Rattle.std.specs.Prelude.{◌≡◌, ◌⊎◌, ◌∷◌, ◌++◌, ◌<◌, true, false, length, codes, IfOk, IfErr, IfSome};
 ghost use Rattle.std.specs.Fmt.{decimal};
 ghost use Rattle.std.specs.Option.{option_map};
 ghost use Rattle.std.specs.Result.{result_ok};
 ghost use Rattle.trace_reader.specs.Lines.{title_at, is_output, side_line_at, shown_at, showings_at, asked_at, entry_at, count_at, note_at, image_line_at, areas_at, counter_at, entries_at, last_at, cut_at};
+ghost use Rattle.trace_reader.specs.declared.trace.Showings.TheVariants as showings;
 ghost use Rattle.trace_reader.specs.Images.{image};
+ghost use Rattle.trace_reader.specs.Refusal.{StopsAt, WithinAreas, BeginsAreas};
+ghost use Rattle.trace_reader.specs.Ranges.{IsImage, FitsEntry, FitsNote, FitsAreas, FitsCounter, EndsAs};
 ghost use Rattle.trace_reader.specs.Text.{title_line, side_text, entry_line, shown_lines, count_line, note_line, counter_line, area_lines, last_line};
 
 use crate::fields::{after, number_at};
@@ -69,6 +72,7 @@ fn shown_at(text: &[u8]) -> (Showings, &[u8])
 fn showings_at<'a>(request: &Request, answer: &Answer, text: &'a [u8]) -> (Showings, &'a [u8])
     ensures exact { (result.0, result.1.now) ≡ showings_at request.now answer.now text.now }
     ensures written { text.now ≡ shown_lines result.0 ++ result.1.now }
+    ensures fits { (is_output request.now answer.now ≡ true) ⊎ (result.0 ≡ showings.None) }
 {
     if is_output(request, answer) {
         shown_at(text)
@@ -82,8 +86,10 @@ fn showings_at<'a>(request: &Request, answer: &Answer, text: &'a [u8]) -> (Showi
 fn asked_at(text: &[u8], k: usize) -> Option<(Entry, &[u8])>
     ensures exact { option_map (λ p. (p.0, p.1.now)) result ≡ asked_at k text.now }
     ensures written { IfSome result (λ p. text.now ≡ entry_line k p.0 ++ p.1.now) }
+    ensures fits { IfSome result (λ p. FitsEntry p.0) }
+    ensures numbered { IfSome result (λ p. k < 4294967295) }
 {
-    let (number, rest) = number_at(text, u32::MAX)?;
+    let (number, rest) = number_at(text, u32::MAX - 1)?;
     if number as usize != k {
         return None;
     }
@@ -109,6 +115,9 @@ fn asked_at(text: &[u8], k: usize) -> Option<(Entry, &[u8])>
 pub fn entry_at(text: &[u8], k: usize) -> Option<(Entry, &[u8])>
     ensures exact { option_map (λ p. (p.0, p.1.now)) result ≡ entry_at k text.now }
     ensures written { IfSome result (λ p. text.now ≡ entry_line k p.0 ++ (shown_lines p.0.shown ++ p.1.now)) }
+    ensures fits { IfSome result (λ p. FitsEntry p.0) }
+    ensures numbered { IfSome result (λ p. k < 4294967295) }
+    ensures shown { IfSome result (λ p. showings_at p.0.request p.0.answer (shown_lines p.0.shown ++ p.1.now) ≡ (p.0.shown, p.1.now)) }
     ensures shorter { IfSome result (λ p. length p.1.now < length text.now) }
 {
     let (asked, rest) = asked_at(text, k)?;
@@ -121,6 +130,7 @@ pub fn entry_at(text: &[u8], k: usize) -> Option<(Entry, &[u8])>
 pub fn count_at(text: &[u8]) -> Option<(u32, &[u8])>
     ensures exact { option_map (λ p. (p.0, p.1.now)) result ≡ count_at text.now }
     ensures written { IfSome result (λ p. text.now ≡ count_line p.0 ++ p.1.now) }
+    ensures within { IfSome result (λ p. p.0 < 4294967296) }
 {
     let rest = after(b"DIAG ", text)?;
     let (count, rest) = number_at(rest, u32::MAX)?;
@@ -133,6 +143,7 @@ pub fn count_at(text: &[u8]) -> Option<(u32, &[u8])>
 pub fn note_at(text: &[u8]) -> Option<(Note, &[u8])>
     ensures exact { option_map (λ p. (p.0, p.1.now)) result ≡ note_at text.now }
     ensures written { IfSome result (λ p. text.now ≡ note_line p.0 ++ p.1.now) }
+    ensures fits { IfSome result (λ p. FitsNote p.0) }
 {
     let (moment, rest) = number_at(text, u32::MAX)?;
     let rest = after(b" ", rest)?;
@@ -146,6 +157,7 @@ pub fn note_at(text: &[u8]) -> Option<(Note, &[u8])>
 fn process_line_at<'a>(name: &[u8], text: &'a [u8]) -> Option<([u8; 64], &'a [u8])>
     ensures exact { option_map (λ p. (p.0, p.1.now)) result ≡ image_line_at name.now 64 text.now }
     ensures written { IfSome result (λ p. text.now ≡ name.now ++ (image p.0 ++ 10 ∷ p.1.now)) }
+    ensures fits { IfSome result (λ p. IsImage 64 p.0) }
 {
     let rest = after(name, text)?;
     let (bytes, rest) = process_image_at(rest)?;
@@ -158,6 +170,7 @@ fn process_line_at<'a>(name: &[u8], text: &'a [u8]) -> Option<([u8; 64], &'a [u8
 fn memory_line_at(text: &[u8]) -> Option<([u8; 1024], &[u8])>
     ensures exact { option_map (λ p. (p.0, p.1.now)) result ≡ image_line_at (codes "M ") 1024 text.now }
     ensures written { IfSome result (λ p. text.now ≡ codes "M " ++ (image p.0 ++ 10 ∷ p.1.now)) }
+    ensures fits { IfSome result (λ p. IsImage 1024 p.0) }
 {
     let rest = after(b"M ", text)?;
     let (bytes, rest) = memory_image_at(rest)?;
@@ -171,10 +184,21 @@ fn memory_line_at(text: &[u8]) -> Option<([u8; 1024], &[u8])>
 pub fn areas_at(text: &[u8]) -> Result<(Areas, &[u8]), usize>
     ensures exact { option_map (λ p. (p.0, p.1.now)) (result_ok result) ≡ areas_at text.now }
     ensures written { IfOk result (λ p. text.now ≡ area_lines p.0 ++ p.1.now) }
+    ensures fits { IfOk result (λ p. FitsAreas p.0) }
+    ensures stopped { IfErr result (λ left. StopsAt WithinAreas BeginsAreas text.now left) }
 {
-    let (inputs, after_inputs) = process_line_at(b"I ", text).ok_or(text.len())?;
-    let (outputs, after_outputs) = process_line_at(b"Q ", after_inputs).ok_or(after_inputs.len())?;
-    let (memory, rest) = memory_line_at(after_outputs).ok_or(after_outputs.len())?;
+    let (inputs, after_inputs) = match process_line_at(b"I ", text) {
+        Some(found) => found,
+        None => return Err(text.len()),
+    };
+    let (outputs, after_outputs) = match process_line_at(b"Q ", after_inputs) {
+        Some(found) => found,
+        None => return Err(after_inputs.len()),
+    };
+    let (memory, rest) = match memory_line_at(after_outputs) {
+        Some(found) => found,
+        None => return Err(after_outputs.len()),
+    };
     let areas = Areas {
         inputs,
         outputs,
@@ -188,6 +212,7 @@ pub fn areas_at(text: &[u8]) -> Result<(Areas, &[u8]), usize>
 pub fn counter_at(text: &[u8]) -> Option<(Counter, &[u8])>
     ensures exact { option_map (λ p. (p.0, p.1.now)) result ≡ counter_at text.now }
     ensures written { IfSome result (λ p. text.now ≡ counter_line p.0 ++ p.1.now) }
+    ensures fits { IfSome result (λ p. FitsCounter p.0) }
     ensures shorter { IfSome result (λ p. length p.1.now < length text.now) }
 {
     let rest = after(b"C ", text)?;
@@ -203,6 +228,7 @@ pub fn counter_at(text: &[u8]) -> Option<(Counter, &[u8])>
 fn entries_at<'a>(text: &'a [u8], count: usize) -> Option<&'a [u8]>
     ensures exact { option_map (λ rest. rest.now) result ≡ entries_at count text.now }
     ensures written { IfSome result (λ rest. text.now ≡ decimal count ++ rest.now) }
+    ensures few { IfSome result (λ rest. count < 4294967296) }
 {
     let (number, rest) = number_at(text, u32::MAX)?;
     if number as usize != count {
@@ -211,11 +237,13 @@ fn entries_at<'a>(text: &'a [u8], count: usize) -> Option<&'a [u8]>
     Some(rest)
 }
 
-/// Returns how a trace of so many entries ended that has a tail, and the text after its last line.
+/// Returns how a trace of this number of entries ended that has a tail, and the text after its last line.
 #[tactic(auto, unfolding(crate::specs::Lines::last_at), using(std::proofs::Common::append_assoc))]
 pub fn last_at(text: &[u8], count: usize) -> Option<(Ending, &[u8])>
     ensures exact { option_map (λ p. (p.0, p.1.now)) result ≡ last_at count text.now }
     ensures written { IfSome result (λ p. text.now ≡ last_line p.0 count ++ p.1.now) }
+    ensures fits { IfSome result (λ p. EndsAs true p.0) }
+    ensures few { IfSome result (λ p. count < 4294967296) }
 {
     if let Some(rest) = after(b"END ", text) {
         let rest = entries_at(rest, count)?;
@@ -230,11 +258,13 @@ pub fn last_at(text: &[u8], count: usize) -> Option<(Ending, &[u8])>
     Some((Ending::Stop(code), rest))
 }
 
-/// Returns how a trace of so many entries ended that has no tail, and the text after its last line.
+/// Returns how a trace of this number of entries ended that has no tail, and the text after its last line.
 #[tactic(auto, unfolding(crate::specs::Lines::cut_at), using(std::proofs::Common::append_assoc))]
 pub fn cut_at(text: &[u8], count: usize) -> Option<(Ending, &[u8])>
     ensures exact { option_map (λ p. (p.0, p.1.now)) result ≡ cut_at count text.now }
     ensures written { IfSome result (λ p. text.now ≡ last_line p.0 count ++ p.1.now) }
+    ensures fits { IfSome result (λ p. EndsAs false p.0) }
+    ensures few { IfSome result (λ p. count < 4294967296) }
 {
     if let Some(rest) = after(b"NONE ", text) {
         let rest = entries_at(rest, count)?;

@@ -1,20 +1,19 @@
 //! Reads a trace, section by section.
-ghost use Rattle.std.specs.Prelude.{◌≡◌, ◌++◌, ◌-◌, ◌<◌, ℕ, List, Option, length, codes, None, is_some, IfOk, IfErr, IfSome};
+ghost use Rattle.std.specs.Prelude.{◌≡◌, ◌++◌, ◌-◌, ◌<◌, ℕ, List, Option, length, take, codes, Some, None, is_some, IfOk, IfErr, IfSome};
 ghost use Rattle.std.specs.List.{flat_map};
 ghost use Rattle.trace_reader.specs.declared.trace.Entry.{Entry};
 ghost use Rattle.trace_reader.specs.declared.trace.Note.{Note};
 ghost use Rattle.trace_reader.specs.declared.trace.Areas.{Areas};
 ghost use Rattle.trace_reader.specs.declared.trace.Counter.{Counter};
-ghost use Rattle.trace_reader.specs.declared.trace.Tail.{Tail};
-ghost use Rattle.trace_reader.specs.declared.trace.Trace.{Trace};
 ghost use Rattle.trace_reader.specs.declared.reading.Stop.TheVariants as stops;
 ghost use Rattle.trace_reader.specs.declared.reading.TraceFault.TheVariants as faults;
 ghost use Rattle.trace_reader.specs.Blocks.{DataBlock};
-ghost use Rattle.trace_reader.specs.Ranges.{Each, FitsEntry, FitsNote, FitsAreas, FitsBlock, FitsCounter, FitsTail, IsTrace, ClosesEntries, ClosesTail};
+ghost use Rattle.trace_reader.specs.Parts.{TailParts, TraceParts, tail_parts, option_parts, parts_of};
+ghost use Rattle.trace_reader.specs.Ranges.{Each, FitsEntry, FitsNote, FitsAreas, FitsBlock, FitsCounter, FitsTail, IsTrace, ClosesEntries, ClosesTail, EndShowings, EndsAs};
 ghost use Rattle.trace_reader.specs.Text.{entries_text, note_line, area_lines, block_line, counter_line, notes_and_after, tail_lines, last_line, text_of};
 ghost use Rattle.std.specs.Option.{option_map};
-ghost use Rattle.trace_reader.specs.Lines.{ending_at};
-ghost use Rattle.trace_reader.specs.Refusal.{line_number, IsLineOf};
+ghost use Rattle.trace_reader.specs.Lines.{entry_at, ending_at};
+ghost use Rattle.trace_reader.specs.Refusal.{lines_after, IsFirstMisfit, NotesStop, AreasStop, TailStop, TraceStop, TailIsOver};
 
 use crate::blocks::{blocks_from, counters_from};
 use crate::lines::{areas_at, count_at, cut_at, entry_at, last_at, note_at, title_at};
@@ -25,7 +24,8 @@ use thiserror::Error;
 /// Why a trace was not read.
 #[derive(Clone, Copy, Debug, PartialEq, Eq, Error)]
 pub enum TraceFault {
-    /// This line, counted from 1, has no form, or may not stand there.
+    /// The first line that fits no trace that begins with the lines before it, counted from 1; or the line at which the
+    /// text breaks off.
     #[error("trace fault line {line}")]
     Line { line: usize },
     /// Memory ran out.
@@ -33,7 +33,7 @@ pub enum TraceFault {
     NoMemory,
 }
 
-/// Where reading stopped: so many bytes before the end, or for want of memory.
+/// Where reading stopped: this number of bytes before the end, or where memory ran out.
 #[derive(Clone, Copy, Debug)]
 enum Stop {
     Left(usize),
@@ -44,6 +44,10 @@ enum Stop {
 #[tactic(auto, using(crate::proofs::Sections::entries_more, std::proofs::Common::append_assoc))]
 fn entries_from(alloc: Global, text: &[u8]) -> Result<(Vec<Entry>, &[u8]), AllocError>
     ensures written { IfOk result (λ p. text.now ≡ entries_text 0 p.0.items ++ p.1.now) }
+    ensures fits { IfOk result (λ p. Each FitsEntry p.0.items) }
+    ensures few { IfOk result (λ p. length p.0.items < 4294967296) }
+    ensures over { IfOk result (λ p. entry_at (length p.0.items) p.1.now ≡ None) }
+    ensures shown { IfOk result (λ p. EndShowings p.0.items p.1.now) }
     ensures exact { (entries : List Entry) (rest : List ℕ) → length entries < 4294967296 → Each FitsEntry entries → ClosesEntries rest → text.now ≡ entries_text 0 entries ++ rest → IfOk result (λ p. (p.0.items ≡ entries) × (p.1.now ≡ rest)) }
 {
     let mut entries = Vec::new(alloc);
@@ -59,6 +63,8 @@ fn entries_from(alloc: Global, text: &[u8]) -> Result<(Vec<Entry>, &[u8]), Alloc
 #[tactic(auto, using(crate::proofs::Sections::more_after, std::proofs::Common::append_assoc))]
 fn notes_from(alloc: Global, text: &[u8], count: u32) -> Result<(Vec<Note>, &[u8]), Stop>
     ensures written { IfOk result (λ p. text.now ≡ flat_map note_line p.0.items ++ p.1.now) }
+    ensures fits { IfOk result (λ p. Each FitsNote p.0.items) }
+    ensures stopped { IfErr result (λ stop. NotesStop count text.now stop) }
     ensures count { IfOk result (λ p. length p.0.items ≡ count) }
     ensures exact { (notes : List Note) (rest : List ℕ) → length notes ≡ count → Each FitsNote notes → text.now ≡ flat_map note_line notes ++ rest → IfOk result (λ p. p.1.now ≡ rest) × IfErr result (λ stop. stop ≡ stops.NoMemory) }
 {
@@ -79,7 +85,10 @@ fn notes_from(alloc: Global, text: &[u8], count: u32) -> Result<(Vec<Note>, &[u8
 /// Returns what stands after the diagnostic entries: the images, the data blocks and the counters.
 #[tactic(auto, using(std::proofs::Common::append_assoc))]
 fn tail_of(alloc: Global, notes: Vec<Note>, text: &[u8]) -> Result<(Tail, &[u8]), Stop>
-    ensures written { IfOk result (λ p. flat_map note_line notes.items ++ text.now ≡ notes_and_after p.0 ++ p.1.now) }
+    ensures written { IfOk result (λ p. flat_map note_line notes.items ++ text.now ≡ notes_and_after (tail_parts p.0) ++ p.1.now) }
+    ensures fits { length notes.items < 4294967296 → Each FitsNote notes.items → IfOk result (λ p. FitsTail (Some (tail_parts p.0))) }
+    ensures over { IfOk result (λ p. TailIsOver (Some (tail_parts p.0)) p.1.now) }
+    ensures stopped { IfErr result (λ stop. AreasStop text.now stop) }
     ensures count { IfOk result (λ p. p.0.notes ≡ notes) }
     ensures exact { (areas : Areas) (blocks : List DataBlock) (counters : List Counter) (rest : List ℕ) → FitsAreas areas → Each FitsBlock blocks → Each FitsCounter counters → ClosesTail rest
         → text.now ≡ area_lines areas ++ (flat_map block_line blocks ++ (flat_map counter_line counters ++ rest)) → IfOk result (λ p. p.1.now ≡ rest) × IfErr result (λ stop. stop ≡ stops.NoMemory) }
@@ -108,8 +117,11 @@ fn tail_of(alloc: Global, notes: Vec<Note>, text: &[u8]) -> Result<(Tail, &[u8])
 /// Returns the tail, where there is one, and the text after it.
 #[tactic(auto, using(std::proofs::Common::append_assoc))]
 fn tail_from(alloc: Global, text: &[u8]) -> Result<(Option<Tail>, &[u8]), Stop>
-    ensures written { IfOk result (λ p. text.now ≡ tail_lines p.0 ++ p.1.now) }
-    ensures exact { (tail : Option Tail) (rest : List ℕ) → FitsTail tail → ClosesTail rest → text.now ≡ tail_lines tail ++ rest → IfOk result (λ p. (is_some p.0 ≡ is_some tail) × (p.1.now ≡ rest)) × IfErr result (λ stop. stop ≡ stops.NoMemory) }
+    ensures written { IfOk result (λ p. text.now ≡ tail_lines (option_parts p.0) ++ p.1.now) }
+    ensures fits { IfOk result (λ p. FitsTail (option_parts p.0)) }
+    ensures over { IfOk result (λ p. TailIsOver (option_parts p.0) p.1.now) }
+    ensures stopped { IfErr result (λ stop. TailStop text.now stop) }
+    ensures exact { (tail : Option TailParts) (rest : List ℕ) → FitsTail tail → ClosesTail rest → text.now ≡ tail_lines tail ++ rest → IfOk result (λ p. (is_some p.0 ≡ is_some tail) × (p.1.now ≡ rest)) × IfErr result (λ stop. stop ≡ stops.NoMemory) }
 {
     let Some((count, rest)) = count_at(text) else {
         return Ok((None, text));
@@ -124,9 +136,11 @@ fn tail_from(alloc: Global, text: &[u8]) -> Result<(Option<Tail>, &[u8]), Stop>
     }
 }
 
-/// Returns how a trace of so many entries ended, and the text after its last line.
+/// Returns how a trace of this number of entries ended, and the text after its last line.
 fn ending_from(text: &[u8], has_tail: bool, count: usize) -> Option<(Ending, &[u8])>
     ensures written { IfSome result (λ p. text.now ≡ last_line p.0 count ++ p.1.now) }
+    ensures fits { IfSome result (λ p. EndsAs has_tail p.0) }
+    ensures few { IfSome result (λ p. count < 4294967296) }
     ensures exact { option_map (λ p. (p.0, p.1.now)) result ≡ ending_at has_tail count text.now }
 {
     if has_tail {
@@ -139,8 +153,10 @@ fn ending_from(text: &[u8], has_tail: bool, count: usize) -> Option<(Ending, &[u
 /// Reads a whole trace.
 #[tactic(auto, using(std::proofs::Common::append_assoc))]
 fn trace_from(alloc: Global, text: &[u8]) -> Result<Trace, Stop>
-    ensures written { IfOk result (λ trace. text_of trace ≡ text.now) }
-    ensures exact { (trace : Trace) → IsTrace trace → text_of trace ≡ text.now → IfErr result (λ stop. stop ≡ stops.NoMemory) }
+    ensures written { IfOk result (λ trace. text_of (parts_of trace) ≡ text.now) }
+    ensures fits { IfOk result (λ trace. IsTrace (parts_of trace)) }
+    ensures stopped { IfErr result (λ stop. TraceStop text.now stop) }
+    ensures exact { (trace : TraceParts) → IsTrace trace → text_of trace ≡ text.now → IfErr result (λ stop. stop ≡ stops.NoMemory) }
 {
     let Some((mode, rest)) = title_at(text) else {
         return Err(Stop::Left(text.len()));
@@ -169,7 +185,7 @@ fn trace_from(alloc: Global, text: &[u8]) -> Result<Trace, Stop>
 
 /// Returns the number of the line in which the last `left` bytes of a text begin, counted from 1.
 fn line_of(text: &[u8], left: usize) -> usize
-    ensures { result ≡ line_number text.now (length text.now - left) }
+    ensures { result ≡ lines_after 1 (take (length text.now - left) text.now) }
 {
     let front = &text[..text.len().saturating_sub(left)];
     let mut number = 1;
@@ -182,12 +198,13 @@ fn line_of(text: &[u8], left: usize) -> usize
 }
 
 /// Reads the text of a trace, as docs/trace.md describes it. What it returns is written by the same bytes, and the text
-/// of a trace is refused for want of memory alone. The fault of another text names a line of the text, counted from 1, or
-/// the line after its last.
+/// of a trace is refused only where memory runs out. The fault of another text names the first line, counted from 1, that fits
+/// no trace which begins with the lines before it; or, where the text breaks off, the line that is not there or not ended.
 pub fn read(alloc: Global, text: &[u8]) -> Result<Trace, TraceFault>
-    ensures written { IfOk result (λ trace. text_of trace ≡ text.now) }
-    ensures exact { (trace : Trace) → IsTrace trace → text_of trace ≡ text.now → IfErr result (λ fault. fault ≡ faults.NoMemory) }
-    ensures line { IfErr result (λ fault. IsLineOf text.now fault) }
+    ensures written { IfOk result (λ trace. text_of (parts_of trace) ≡ text.now) }
+    ensures fits { IfOk result (λ trace. IsTrace (parts_of trace)) }
+    ensures exact { (trace : TraceParts) → IsTrace trace → text_of trace ≡ text.now → IfErr result (λ fault. fault ≡ faults.NoMemory) }
+    ensures line { IfErr result (λ fault. IsFirstMisfit text.now fault) }
 {
     match trace_from(alloc, text) {
         Ok(trace) => Ok(trace),

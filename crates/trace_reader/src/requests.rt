@@ -2,6 +2,7 @@
 ghost use Rattle.std.specs.Prelude.{◌≡◌, ◌++◌, IfSome};
 ghost use Rattle.std.specs.Option.{option_map};
 ghost use Rattle.trace_reader.specs.Requests.{plain_request_at, access_at, reply_at, request_at, plain_answer_at, value_answer_at, job_at, alarm_at, back_at, state_answer_at, answer_at, numbered_event_at, event_at};
+ghost use Rattle.trace_reader.specs.Ranges.{FitsRequest, FitsAnswer, FitsEvent};
 ghost use Rattle.trace_reader.specs.Text.{request_text, answer_text, entry_line, event_text, side_text, back_text};
 
 use crate::fields::{after, double_at, number_at};
@@ -16,6 +17,7 @@ use crate::words::{
 fn plain_request_at(text: &[u8]) -> Option<(Request, &[u8])>
     ensures exact { option_map (λ p. (p.0, p.1.now)) result ≡ plain_request_at text.now }
     ensures written { IfSome result (λ p. text.now ≡ request_text p.0 ++ p.1.now) }
+    ensures fits { IfSome result (λ p. FitsRequest p.0) }
 {
     if let Some(rest) = after(b"IN", text) {
         return Some((Request::Inputs, rest));
@@ -38,6 +40,7 @@ fn plain_request_at(text: &[u8]) -> Option<(Request, &[u8])>
 fn access_at(text: &[u8]) -> Option<(Request, &[u8])>
     ensures exact { option_map (λ p. (p.0, p.1.now)) result ≡ access_at text.now }
     ensures written { IfSome result (λ p. text.now ≡ request_text p.0 ++ p.1.now) }
+    ensures fits { IfSome result (λ p. FitsRequest p.0) }
 {
     if let Some(rest) = after(b"RP ", text) {
         let (at, rest) = address_at(rest)?;
@@ -59,6 +62,7 @@ fn access_at(text: &[u8]) -> Option<(Request, &[u8])>
 fn reply_at(text: &[u8]) -> Option<(Request, &[u8])>
     ensures exact { option_map (λ p. (p.0, p.1.now)) result ≡ reply_at text.now }
     ensures written { IfSome result (λ p. text.now ≡ request_text p.0 ++ p.1.now) }
+    ensures fits { IfSome result (λ p. FitsRequest p.0) }
 {
     if let Some(rest) = after(b"REPLY OK ", text) {
         let (value, rest) = double_at(rest)?;
@@ -73,6 +77,7 @@ fn reply_at(text: &[u8]) -> Option<(Request, &[u8])>
 pub fn request_at(text: &[u8]) -> Option<(Request, &[u8])>
     ensures exact { option_map (λ p. (p.0, p.1.now)) result ≡ request_at text.now }
     ensures written { IfSome result (λ p. text.now ≡ request_text p.0 ++ p.1.now) }
+    ensures fits { IfSome result (λ p. FitsRequest p.0) }
 {
     if let Some(rest) = after(b"OUT ", text) {
         let (bytes, rest) = process_image_at(rest)?;
@@ -96,6 +101,7 @@ pub fn request_at(text: &[u8]) -> Option<(Request, &[u8])>
 fn plain_answer_at(text: &[u8]) -> Option<(Answer, &[u8])>
     ensures exact { option_map (λ p. (p.0, p.1.now)) result ≡ plain_answer_at text.now }
     ensures written { IfSome result (λ p. text.now ≡ answer_text p.0 ++ p.1.now) }
+    ensures fits { IfSome result (λ p. FitsAnswer p.0) }
 {
     if let Some(rest) = after(b"DONE", text) {
         return Some((Answer::Done, rest));
@@ -115,6 +121,7 @@ fn plain_answer_at(text: &[u8]) -> Option<(Answer, &[u8])>
 fn value_answer_at(text: &[u8]) -> Option<(Answer, &[u8])>
     ensures exact { option_map (λ p. (p.0, p.1.now)) result ≡ value_answer_at text.now }
     ensures written { IfSome result (λ p. text.now ≡ answer_text p.0 ++ p.1.now) }
+    ensures fits { IfSome result (λ p. FitsAnswer p.0) }
 {
     if let Some(rest) = after(b"IMG ", text) {
         let (bytes, rest) = process_image_at(rest)?;
@@ -134,6 +141,7 @@ fn value_answer_at(text: &[u8]) -> Option<(Answer, &[u8])>
 fn job_at(text: &[u8]) -> Option<(Answer, &[u8])>
     ensures exact { option_map (λ p. (p.0, p.1.now)) result ≡ job_at text.now }
     ensures written { IfSome result (λ p. text.now ≡ answer_text p.0 ++ p.1.now) }
+    ensures fits { IfSome result (λ p. FitsAnswer p.0) }
 {
     if let Some(rest) = after(b"JOB READ ", text) {
         let (place, rest) = place_at(rest)?;
@@ -151,6 +159,7 @@ fn job_at(text: &[u8]) -> Option<(Answer, &[u8])>
 fn alarm_at(text: &[u8]) -> Option<(Answer, &[u8])>
     ensures exact { option_map (λ p. (p.0, p.1.now)) result ≡ alarm_at text.now }
     ensures written { IfSome result (λ p. text.now ≡ answer_text p.0 ++ p.1.now) }
+    ensures fits { IfSome result (λ p. FitsAnswer p.0) }
 {
     let rest = after(b"ALARM ", text)?;
     let (ob, rest) = small_at(rest)?;
@@ -174,6 +183,7 @@ fn back_at(text: &[u8]) -> Option<(Side, &[u8])>
 fn state_answer_at(text: &[u8]) -> Option<(Answer, &[u8])>
     ensures exact { option_map (λ p. (p.0, p.1.now)) result ≡ state_answer_at text.now }
     ensures written { IfSome result (λ p. text.now ≡ answer_text p.0 ++ p.1.now) }
+    ensures fits { IfSome result (λ p. FitsAnswer p.0) }
 {
     if let Some(((side, why), rest)) = lost_at(text) {
         return Some((Answer::Lost { side, why }, rest));
@@ -191,6 +201,7 @@ fn state_answer_at(text: &[u8]) -> Option<(Answer, &[u8])>
 pub fn answer_at(text: &[u8]) -> Option<(Answer, &[u8])>
     ensures exact { option_map (λ p. (p.0, p.1.now)) result ≡ answer_at text.now }
     ensures written { IfSome result (λ p. text.now ≡ answer_text p.0 ++ p.1.now) }
+    ensures fits { IfSome result (λ p. FitsAnswer p.0) }
 {
     if let Some(found) = plain_answer_at(text) {
         return Some(found);
@@ -212,6 +223,7 @@ pub fn answer_at(text: &[u8]) -> Option<(Answer, &[u8])>
 fn numbered_event_at(text: &[u8]) -> Option<(Event, &[u8])>
     ensures exact { option_map (λ p. (p.0, p.1.now)) result ≡ numbered_event_at text.now }
     ensures written { IfSome result (λ p. text.now ≡ event_text p.0 ++ p.1.now) }
+    ensures fits { IfSome result (λ p. FitsEvent p.0) }
 {
     if let Some(rest) = after(b"ERROR ", text) {
         let (number, rest) = small_at(rest)?;
@@ -231,6 +243,7 @@ fn numbered_event_at(text: &[u8]) -> Option<(Event, &[u8])>
 pub fn event_at(text: &[u8]) -> Option<(Event, &[u8])>
     ensures exact { option_map (λ p. (p.0, p.1.now)) result ≡ event_at text.now }
     ensures written { IfSome result (λ p. text.now ≡ event_text p.0 ++ p.1.now) }
+    ensures fits { IfSome result (λ p. FitsEvent p.0) }
 {
     if let Some(rest) = after(b"START", text) {
         return Some((Event::Start, rest));

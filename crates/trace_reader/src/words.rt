@@ -1,9 +1,10 @@
 //! The words of a line: sides, stop codes, widths and places.
-ghost use Rattle.std.specs.Prelude.{◌≡◌, ◌++◌, IfSome};
+ghost use Rattle.std.specs.Prelude.{◌≡◌, ◌++◌, ◌<◌, IfSome};
 ghost use Rattle.std.specs.Option.{option_map};
 ghost use Rattle.std.specs.Fmt.{decimal};
 ghost use Rattle.trace_reader.specs.Fields.{number_at};
 ghost use Rattle.trace_reader.specs.Words.{side_at, missing_ob_at, stop_at, loss_at, lost_at, width_digit_at, width_letter_at, value_at, area_at, place_at};
+ghost use Rattle.trace_reader.specs.Ranges.{FitsWidth, FitsArea, FitsPlace};
 ghost use Rattle.trace_reader.specs.Text.{side_text, stop_text, loss_text, lost_text, width_digit, width_letter, value_text, area_text, place_text};
 
 use crate::fields::{after, byte_at, double_at, number_at, word_value_at};
@@ -124,6 +125,7 @@ fn width_letter_at(text: &[u8]) -> Option<(Width, &[u8])>
 pub fn value_at(text: &[u8], width: Width) -> Option<(u32, &[u8])>
     ensures exact { option_map (λ p. (p.0, p.1.now)) result ≡ value_at width text.now }
     ensures written { IfSome result (λ p. text.now ≡ value_text width p.0 ++ p.1.now) }
+    ensures fits { IfSome result (λ p. FitsWidth width p.0) }
 {
     match width {
         Width::Byte => {
@@ -142,6 +144,7 @@ pub fn value_at(text: &[u8], width: Width) -> Option<(u32, &[u8])>
 pub fn address_at(text: &[u8]) -> Option<(u16, &[u8])>
     ensures exact { option_map (λ p. (p.0, p.1.now)) result ≡ number_at 65535 text.now }
     ensures written { IfSome result (λ p. text.now ≡ decimal p.0 ++ p.1.now) }
+    ensures within { IfSome result (λ p. p.0 < 65536) }
 {
     let (number, rest) = number_at(text, 65_535)?;
     Some((number as u16, rest))
@@ -151,6 +154,7 @@ pub fn address_at(text: &[u8]) -> Option<(u16, &[u8])>
 pub fn small_at(text: &[u8]) -> Option<(u8, &[u8])>
     ensures exact { option_map (λ p. (p.0, p.1.now)) result ≡ number_at 255 text.now }
     ensures written { IfSome result (λ p. text.now ≡ decimal p.0 ++ p.1.now) }
+    ensures within { IfSome result (λ p. p.0 < 256) }
 {
     let (number, rest) = number_at(text, 255)?;
     Some((number as u8, rest))
@@ -161,6 +165,7 @@ pub fn small_at(text: &[u8]) -> Option<(u8, &[u8])>
 fn area_at(text: &[u8]) -> Option<((JobArea, Width), &[u8])>
     ensures exact { option_map (λ p. (p.0, p.1.now)) result ≡ area_at text.now }
     ensures written { IfSome result (λ p. text.now ≡ area_text p.0.0 p.0.1 ++ p.1.now) }
+    ensures fits { IfSome result (λ p. FitsArea p.0.0) }
 {
     if let Some(rest) = after(b"M", text) {
         let (width, rest) = width_letter_at(rest)?;
@@ -178,6 +183,7 @@ fn area_at(text: &[u8]) -> Option<((JobArea, Width), &[u8])>
 pub fn place_at(text: &[u8]) -> Option<(Place, &[u8])>
     ensures exact { option_map (λ p. (p.0, p.1.now)) result ≡ place_at text.now }
     ensures written { IfSome result (λ p. text.now ≡ place_text p.0 ++ p.1.now) }
+    ensures fits { IfSome result (λ p. FitsPlace p.0) }
 {
     let ((area, width), rest) = area_at(text)?;
     let rest = after(b" ", rest)?;

@@ -11,6 +11,7 @@ use Rattle.trace_reader.proofs.blocks.blocks_from.Given as goal
 abbrev pub invariant-blocks-2 : goal.invariant-blocks-2
 invariant-blocks-2 l = record {
   whole : l.text ≡ flat_map block_line l.blocks.items ++ l.rest;
+  fits : Each FitsBlock l.blocks.items;
   left : (all : List DataBlock) (end : List ℕ) → Each FitsBlock all → after (codes "DB ") end ≡ None → l.text ≡ flat_map block_line all ++ end → Left block_line FitsBlock all l.blocks.items l.rest end;
 }
 

@@ -11,6 +11,7 @@ use Rattle.trace_reader.proofs.blocks.counters_from.Given as goal
 abbrev pub invariant-counters : goal.invariant-counters
 invariant-counters l = record {
   whole : l.text ≡ flat_map counter_line l.counters.items ++ l.rest;
+  fits : Each FitsCounter l.counters.items;
   left : (all : List Counter) (end : List ℕ) → Each FitsCounter all → after (codes "C ") end ≡ None → l.text ≡ flat_map counter_line all ++ end → Left counter_line FitsCounter all l.counters.items l.rest end;
 }
 

@@ -1,5 +1,5 @@
 use Rattle.std.proofs.Common.{◌<◌, length, Some, None, sym, ◌∙◌, arith}
-use Rattle.trace_reader.proofs.Cells.{more_read, first_more, dark_image, cells_go_on, lit_exact, dash_exact}
+use Rattle.trace_reader.proofs.Cells.{more_read, first_more, dark_image, cells_go_on, bytes_more, bytes_all, lit_exact, dash_exact}
 use Rattle.trace_reader.proofs.images.image_at.Goals as goal
 
 pub loop-at-preserved : goal.loop-at-preserved
@@ -10,9 +10,16 @@ loop-at-preserved c =
     let below : at < length bytes = omega (arith, c.loop-at.auto.bytes, c.loop-at-test.true) in
     record {
       whole = more_read c.args.text.now bytes c.loop-at.rest.now c.byte_of-byte.result.1.now at byte c.loop-at.is_first below c.loop-at.invariant.whole c.loop-at.invariant.first c.byte_of-byte.ensures.written;
+      fits = bytes_more bytes at byte below c.loop-at.invariant.fits c.byte_of-byte.ensures.within;
       read = rw c.still_first-is_first.ensures (cells_go_on c.args.text.now bytes c.loop-at.rest.now c.byte_of-byte.result.1.now at byte c.loop-at.is_first below c.byte_of-byte.ensures.exact c.loop-at.invariant.read);
       first = c.still_first-is_first.ensures ∙ first_more bytes at byte c.loop-at.is_first below c.loop-at.invariant.first;
     }
+
+pub returns-then-not-is_first-clause-fits : goal.returns-then-not-is_first-clause-fits
+returns-then-not-is_first-clause-fits c = bytes_all c.loop-at.bytes c.loop-at.at (omega (arith, c.loop-at.auto.bytes, c.loop-at-test.false)) c.loop-at.invariant.fits
+
+pub returns-clause-fits : goal.returns-clause-fits
+returns-clause-fits c = bytes_all c.loop-at.bytes c.loop-at.at (omega (arith, c.loop-at.auto.bytes, c.loop-at-test.false)) c.loop-at.invariant.fits
 
 pub returns-clause-written : goal.returns-clause-written
 returns-clause-written c =

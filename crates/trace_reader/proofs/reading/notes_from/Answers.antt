@@ -2,10 +2,15 @@ use Rattle.std.proofs.Common.{◌≡◌, ◌++◌, ◌+◌, [], ◌∷◌, lengt
 use Rattle.trace_reader.specs.Lines.{note_at}
 use Rattle.trace_reader.specs.Ranges.{FitsNote}
 use Rattle.trace_reader.specs.Text.{note_line}
-use Rattle.trace_reader.proofs.Sections.{more_after}
+use Rattle.trace_reader.proofs.Sections.{more_after, each_more}
 use Rattle.trace_reader.proofs.ReadTail.{note_again}
 use Rattle.trace_reader.proofs.GoesOn.{one_of_many_less, none_left}
+use Rattle.trace_reader.proofs.SectionStops.{notes_stop}
 use Rattle.trace_reader.proofs.reading.notes_from.Goals as goal
+
+pub returns-in_default-clause-stopped : goal.returns-in_default-clause-stopped
+returns-in_default-clause-stopped c =
+    notes_stop c.args.text.now c.loop-turn.rest.now c.loop-turn.notes.items c.args.count c.loop-turn.invariant.whole (omega (arith, c.loop-turn.invariant.count, c.loop-turn-test.true)) c.loop-turn.invariant.fits c.in_default.ensures.exact
 
 pub returns-in_default-clause-exact : goal.returns-in_default-clause-exact
 returns-in_default-clause-exact c = λ notes rest n fit whole.
@@ -24,6 +29,7 @@ loop-turn-preserved c =
     record {
       whole = rw items (more_after note_line c.args.text.now notes note c.loop-turn.rest.now next c.loop-turn.invariant.whole c.in-Some.ensures.written);
       count = rw items (omega (arith, longer, c.loop-turn.invariant.count));
+      fits = rw items (each_more FitsNote notes note c.loop-turn.invariant.fits c.in-Some.ensures.fits);
       left = λ all end n fit whole.
           rw items (one_of_many_less note_line FitsNote note_at all notes c.loop-turn.rest.now end next note note_again (omega (arith, n, c.loop-turn.invariant.count, c.loop-turn-test.true)) found (c.loop-turn.invariant.left all end n fit whole));
     }
