@@ -1,5 +1,5 @@
 -- The pages of areas, and of data blocks of which one was written.
-use Rattle.std.proofs.Common.{◌≡◌, ℕ, ◌+◌, ◌-◌, ◌/◌, ◌^◌, Bool, ◌<◌, ◌≤◌, List, length, take, drop, ◌++◌, Option, Some, None, length-take, sym, ap, ◌∙◌, subst, arith, ◌⊎◌, inl, inr}
+use Rattle.std.proofs.Common.{◌≡◌, ℕ, ◌+◌, ◌-◌, ◌/◌, ◌^◌, Bool, ◌<◌, ◌≤◌, List, length, take, drop, ◌++◌, Option, Some, None, length-take, refl, sym, ap, ◌∙◌, subst, arith, ◌⊎◌, inl, inr}
 use Rattle.std.specs.Prelude.{slice_index, slice_index_or, slice_set}
 use Rattle.std.proofs.lemmas.List.{length-take-le, length-drop, length-append, take-set-le, get_or-take, get_or_past, get_or-set_same, get_or-set_other, length-set}
 use Rattle.std.proofs.Math.Seq.{take-set-lt}
@@ -23,6 +23,10 @@ block_has : (o : Option (List ℕ)) (at : ℕ) → at < length (bytes_in o) → 
 block_has None at h = absurd (omega arith)
 block_has (Some bytes) at h = omega arith
 
+pub pages_there : (o : Option (List ℕ)) → 0 < length (bytes_in o) → (length (bytes_in o) + 255) / 256 ≡ pages_of o
+pages_there None h = absurd (omega arith)
+pages_there (Some bytes) h = refl
+
 block_there : (blocks : List (Option (List ℕ))) (n at : ℕ) → length blocks ≡ 256 → at < length (bytes_in (slice_index_or blocks n None)) → data_pages (take n blocks) + (at + 256) / 256 ≤ data_pages blocks
 block_there blocks n at long h = elim (cases_lt n (length blocks)) [
   inl lt ↦
@@ -45,7 +49,7 @@ page_is_there image Registers at s h = let e = s.registers in let m = s.marks in
 page_is_there image (Db n) at s h = let e = block_there image.data_blocks n at s.data_blocks h in let m = s.marks in omega arith
 
 -- a data block that keeps its length keeps the pages of all
-pages_set : (blocks : List (Option (List ℕ))) (m : ℕ) (y : Option (List ℕ)) → m < length blocks → pages_of y ≡ pages_of (slice_index_or blocks m None) → data_pages (slice_set blocks m y) ≡ data_pages blocks
+pub pages_set : (blocks : List (Option (List ℕ))) (m : ℕ) (y : Option (List ℕ)) → m < length blocks → pages_of y ≡ pages_of (slice_index_or blocks m None) → data_pages (slice_set blocks m y) ≡ data_pages blocks
 pages_set blocks m y lt e = let s = sum_by-set pages_of blocks m y None lt in omega arith
 
 pub pages_take_set : (blocks : List (Option (List ℕ))) (m n : ℕ) (y : Option (List ℕ)) → m < length blocks → pages_of y ≡ pages_of (slice_index_or blocks m None) → data_pages (take n (slice_set blocks m y)) ≡ data_pages (take n blocks)

@@ -1,16 +1,19 @@
 -- What was written is read, and the rest is kept.
 use Rattle.std.proofs.Common.{◌≡◌, ◌≢◌, ◌⊎◌, ◌↔◌, inl, inr, ℕ, zero, suc, ◌+◌, ◌-◌, ◌*◌, ◌^◌, ◌/◌, ◌<◌, ◌≤◌, Bool, true, false, List, [], ◌∷◌, ◌++◌, length, take, drop, Option, Some, None, refl, sym, ap, ◌∙◌, subst, arith, zero-add}
-use Rattle.std.specs.Prelude.{slice_range, slice_get, slice_set, slice_index_or, IsTrue}
-use Rattle.std.specs.Int.{bytes_high_first}
+use Rattle.std.specs.Prelude.{slice_range, slice_get, slice_set, slice_index, slice_index_or, IsTrue, bit_or, bit_and, ◌==◌}
+use Rattle.std.specs.Int.{bytes_high_first, bit_at, w8}
+use Rattle.std.proofs.Math.Pow.{pow-lt}
+use Rattle.std.proofs.lemmas.Nat.Bits.{bit_at_or, bit_at_and, bit_at_not, bit_at-pow_same, bit_at-pow_other}
 use Rattle.std.proofs.lemmas.Bool.{cases_lt, cases_eq}
-use Rattle.std.proofs.lemmas.List.{get_or-set_same, get_or-set_other, get_or_past, length-take-le, take_at, drop_at, append_assoc, length-set}
+use Rattle.std.proofs.lemmas.List.{get_or-set_same, get_or-set_other, get_or_past, length-take-le, take_at, drop_at, append_assoc, length-set, get_or-append_right}
 use Rattle.std.proofs.lemmas.Nat.{from_be_bytes-to_be_bytes_2, from_be_bytes-to_be_bytes_4}
 use Rattle.s7_events.specs.declared.diagnostics.Area.{Area}
 use Rattle.s7_events.specs.declared.diagnostics.Area.TheVariants.{I, Q, M, Db, Timers, Counters, Registers}
-use Rattle.cpu_image.specs.Values.{IsWidth, value_of, overwritten}
+use Rattle.cpu_image.specs.Values.{IsWidth, value_of, bit_in, with_bit, overwritten}
 use Rattle.cpu_image.specs.Image.{Image, bytes_of, bytes_in, area_bytes, with_bytes, value_at}
-use Rattle.cpu_image.specs.Pages.{page_of, first_page, offset, is_marked, written, value_written}
-use Rattle.cpu_image.specs.Laws.{WrittenIsRead, OthersAreKept, WritesMark, HasByteOn, AreIn}
+use Rattle.cpu_image.specs.Pages.{pages_of, page_of, first_page, offset, is_marked, written, value_written, bit_written}
+use Rattle.cpu_image.proofs.Pages.{length-overwritten, pages_there, pages_set, pages_take_set}
+use Rattle.cpu_image.specs.Laws.{WrittenIsRead, WrittenBitIsRead, OthersAreKept, WritesMark, PagesStay, HasByteOn, AreIn}
 
 -- areas --
 
@@ -21,11 +24,15 @@ block_kept blocks n m bytes ne = get_or-set_other blocks m n (Some bytes) None (
 kept_elsewhere : (image : Image) (area other : Area) (bytes : List ℕ) → other ≢ area → bytes_of (with_bytes image area bytes) other ≡ bytes_of image other
 kept_elsewhere image area other bytes ne = grind (arith, block_kept image.data_blocks)
 
-block_here : (blocks : List (Option (List ℕ))) (n : ℕ) (bytes : List ℕ) → 0 < length (bytes_in (slice_index_or blocks n None)) → bytes_in (slice_index_or (slice_set blocks n (Some bytes)) n None) ≡ bytes
-block_here blocks n bytes some = elim (cases_lt n (length blocks)) [
-  inl lt ↦ ap bytes_in (get_or-set_same blocks n (Some bytes) None lt)
+-- a data block that has bytes is one of the list
+block_is : (blocks : List (Option (List ℕ))) (n : ℕ) → 0 < length (bytes_in (slice_index_or blocks n None)) → n < length blocks
+block_is blocks n some = elim (cases_lt n (length blocks)) [
+  inl lt ↦ lt
   | inr past ↦ (let e = ap (λ o. length (bytes_in o)) (get_or_past blocks n None past) in absurd (omega arith))
   ]
+
+block_here : (blocks : List (Option (List ℕ))) (n : ℕ) (bytes : List ℕ) → 0 < length (bytes_in (slice_index_or blocks n None)) → bytes_in (slice_index_or (slice_set blocks n (Some bytes)) n None) ≡ bytes
+block_here blocks n bytes some = ap bytes_in (get_or-set_same blocks n (Some bytes) None (block_is blocks n some))
 
 -- the area has the bytes that were put into it
 kept_here : (image : Image) (area : Area) (bytes : List ℕ) → 0 < length (area_bytes image area) → area_bytes (with_bytes image area bytes) area ≡ bytes
@@ -65,6 +72,62 @@ written_is_read image area at width value w fits there =
     ap (λ l. value_of (slice_range l at (at + width))) (kept_here image area (overwritten (area_bytes image area) at piece) some)
     ∙ ap value_of (piece_here (area_bytes image area) piece at width (length-value width value) there)
     ∙ value_back width value w fits
+
+-- bits --
+
+low : (byte bit : ℕ) → bit_at byte bit ≤ 1
+low byte bit = omega arith
+
+small : (bit : ℕ) → bit < 8 → 2 ^ bit < 2 ^ 8
+small bit lt = pow-lt lt
+
+one_bit : (byte bit : ℕ) (value : Bool) → bit < 8 → bit_in (with_bit byte bit value) bit ≡ value
+one_bit byte bit true lt =
+    let or = bit_at_or byte (2 ^ bit) bit in
+    let one = bit_at-pow_same bit in
+    let old = low byte bit in
+    let is : bit_at (bit_or byte (2 ^ bit)) bit ≡ 1 = omega arith in
+    ap (λ n. n == 1) is
+one_bit byte bit false lt =
+    let and = bit_at_and byte (255 - 2 ^ bit) bit in
+    let one = bit_at-pow_same bit in
+    let not = bit_at_not w8 (2 ^ bit) bit (small bit lt) lt in
+    let is : bit_at (bit_and byte (255 - 2 ^ bit)) bit ≡ 0 = omega arith in
+    ap (λ n. n == 1) is
+
+other_bit : (byte bit other : ℕ) (value : Bool) → bit < 8 → other < 8 → other ≢ bit → bit_in (with_bit byte bit value) other ≡ bit_in byte other
+other_bit byte bit other true lt lt2 ne =
+    let or = bit_at_or byte (2 ^ bit) other in
+    let none = bit_at-pow_other bit other ne in
+    let is : bit_at (bit_or byte (2 ^ bit)) other ≡ bit_at byte other = omega arith in
+    ap (λ n. n == 1) is
+other_bit byte bit other false lt lt2 ne =
+    let and = bit_at_and byte (255 - 2 ^ bit) other in
+    let none = bit_at-pow_other bit other ne in
+    let not = bit_at_not w8 (2 ^ bit) other (small bit lt) lt2 in
+    let old = low byte other in
+    let is : bit_at (bit_and byte (255 - 2 ^ bit)) other ≡ bit_at byte other = omega arith in
+    ap (λ n. n == 1) is
+
+byte_here : (bytes : List ℕ) (at byte : ℕ) → at < length bytes → slice_index (overwritten bytes at (byte ∷ [])) at ≡ byte
+byte_here bytes at byte lt =
+    let rest : List ℕ = drop (at + 1) bytes in
+    let place : at - at ≡ 0 = omega arith in
+    ap (λ l. slice_index l at) (append_assoc (take at bytes) (byte ∷ []) rest)
+    ∙ get_or-append_right (take at bytes) (byte ∷ rest) at at 0 (length-take-le at bytes (omega arith)) (omega arith)
+    ∙ ap (λ k. slice_index (byte ∷ rest) k) place
+
+pub written_bit_is_read : WrittenBitIsRead
+written_bit_is_read image area at bit value lt there =
+    let old = slice_index (area_bytes image area) at in
+    let byte = with_bit old bit value in
+    let is : slice_index (area_bytes (bit_written area at bit value image) area) at ≡ byte =
+    ap (λ l. slice_index l at) (kept_here image area (overwritten (area_bytes image area) at (byte ∷ [])) (omega arith))
+    ∙ byte_here (area_bytes image area) at byte (omega arith) in
+    record {
+      read = ap (λ b. bit_in b bit) is ∙ one_bit old bit value lt;
+      others = λ other lt2 ne. ap (λ b. bit_in b other) is ∙ other_bit old bit other value lt lt2 ne;
+    }
 
 -- bytes before and after a piece --
 
@@ -120,27 +183,52 @@ on_first_or_last image area at width page some few on = elim (cases_eq page (pag
   ]
 
 pub writes_mark : WritesMark
-writes_mark image area at width value page w lt =
-    let some : 0 < width = elim w [ inl e ↦ omega arith | inr f ↦ elim f [ inl e ↦ omega arith | inr e ↦ omega arith ] ] in
-    let few : width ≤ 4 = elim w [ inl e ↦ omega arith | inr f ↦ elim f [ inl e ↦ omega arith | inr e ↦ omega arith ] ] in
+writes_mark image area at page piece some few lt =
     let first = page_of image area at in
-    let last = page_of image area (at + length (bytes_high_first width value) - 1) in
+    let last = page_of image area (at + length piece - 1) in
     let marks = slice_set image.marks first true in
     let there : page < length marks = subst (λ n. page < n) (sym (length-set image.marks first true)) lt in
-    let is_last : last ≡ page_of image area (at + width - 1) = ap (λ n. page_of image area (at + n - 1)) (length-value width value) in
     (
       λ is. elim (marked_from marks last page is) [
         inl m ↦ elim (marked_from image.marks first page m) [
           inl old ↦ inl old
           | inr e ↦ inr (at, omega arith, omega arith, e)
           ]
-        | inr e ↦ inr (at + width - 1, omega arith, omega arith, e ∙ is_last)
+        | inr e ↦ inr (at + length piece - 1, omega arith, omega arith, e)
         ],
       λ h. elim h [
         inl old ↦ mark_other marks last page (mark_other image.marks first page old lt) there
-        | inr on ↦ elim (on_first_or_last image area at width page some few on) [
+        | inr on ↦ elim (on_first_or_last image area at (length piece) page some few on) [
           inl e ↦ mark_other marks last page (mark_here image.marks first page e lt) there
-          | inr e ↦ mark_here marks last page (e ∙ sym is_last) there
+          | inr e ↦ mark_here marks last page e there
           ]
         ],
     )
+
+-- pages --
+
+block_pages : (blocks : List (Option (List ℕ))) (n at : ℕ) (piece : List ℕ) → 0 < length piece → at + length piece ≤ length (bytes_in (slice_index_or blocks n None))
+    → pages_of (Some (overwritten (bytes_in (slice_index_or blocks n None)) at piece)) ≡ pages_of (slice_index_or blocks n None)
+block_pages blocks n at piece some there =
+    ap (λ k. (k + 255) / 256) (length-overwritten (bytes_in (slice_index_or blocks n None)) at piece there) ∙ pages_there (slice_index_or blocks n None) (omega arith)
+
+first_page_stays : (image : Image) (n at : ℕ) (piece : List ℕ) (other : Area) → n < length image.data_blocks → 0 < length piece → AreIn image (Db n) at (length piece) → first_page (written (Db n) at piece image) other ≡ first_page image other
+first_page_stays image n at piece I lt some there = refl
+first_page_stays image n at piece Q lt some there = refl
+first_page_stays image n at piece M lt some there = refl
+first_page_stays image n at piece Timers lt some there = refl
+first_page_stays image n at piece Counters lt some there = refl
+first_page_stays image n at piece Registers lt some there =
+    ap (λ k. 41 + k) (pages_set image.data_blocks n _ lt (block_pages image.data_blocks n at piece some there))
+first_page_stays image n at piece (Db m) lt some there =
+    ap (λ k. 41 + k) (pages_take_set image.data_blocks n m _ lt (block_pages image.data_blocks n at piece some there))
+
+pub pages_stay : PagesStay
+pages_stay image I other at place piece some there = refl
+pages_stay image Q other at place piece some there = refl
+pages_stay image M other at place piece some there = refl
+pages_stay image Timers other at place piece some there = refl
+pages_stay image Counters other at place piece some there = refl
+pages_stay image Registers other at place piece some there = refl
+pages_stay image (Db n) other at place piece some there =
+    ap (λ k. k + (offset other + place) / 256) (first_page_stays image n at piece other (block_is image.data_blocks n (omega arith)) some there)

@@ -1,10 +1,16 @@
 //! Laws of the definitions.
-ghost use Rattle.cpu_image.specs.Laws.{WrittenIsRead, OthersAreKept, WritesMark};
+ghost use Rattle.cpu_image.specs.Laws.{WrittenIsRead, WrittenBitIsRead, OthersAreKept, WritesMark, PagesStay};
 
 /// A value that was written is read at its place.
 #[tactic(auto, using(crate::proofs::Writes::written_is_read))]
 pub fn a_value_written_is_read()
     ensures { WrittenIsRead }
+{}
+
+/// A bit that was written is read at its place, and the other bits of its byte are as they were.
+#[tactic(auto, using(crate::proofs::Writes::written_bit_is_read))]
+pub fn a_bit_written_is_read()
+    ensures { WrittenBitIsRead }
 {}
 
 /// A write changes no byte of another area, and no byte before or after those that it writes.
@@ -17,4 +23,10 @@ pub fn other_bytes_are_kept()
 #[tactic(auto, using(crate::proofs::Writes::writes_mark))]
 pub fn a_write_marks_its_pages()
     ensures { WritesMark }
+{}
+
+/// A write moves no area to another page.
+#[tactic(auto, using(crate::proofs::Writes::pages_stay))]
+pub fn pages_stay()
+    ensures { PagesStay }
 {}

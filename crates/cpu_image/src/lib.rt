@@ -7,4 +7,7 @@ mod laws;
 mod lay;
 
 pub use image::{CpuImage, ImageFault};
-pub use laws::{a_value_written_is_read, a_write_marks_its_pages, other_bytes_are_kept};
+pub use laws::{
+    a_bit_written_is_read, a_value_written_is_read, a_write_marks_its_pages, other_bytes_are_kept,
+    pages_stay,
+};
