@@ -1,0 +1,3 @@
+mod Loaded
+mod Pages
+mod Writes

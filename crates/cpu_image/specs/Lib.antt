@@ -1,0 +1,5 @@
+pub mod Image
+pub mod Laws
+pub mod Layout
+pub mod Pages
+pub mod Values

@@ -1,0 +1,32 @@
+//! Laws of the definitions.
+ghost use Rattle.cpu_image.specs.Laws.{WrittenIsRead, WrittenBitIsRead, OthersAreKept, WritesMark, PagesStay};
+
+/// A value that was written is read at its place.
+#[tactic(auto, using(crate::proofs::Writes::written_is_read))]
+pub fn a_value_written_is_read()
+    ensures { WrittenIsRead }
+{}
+
+/// A bit that was written is read at its place, and the other bits of its byte are as they were.
+#[tactic(auto, using(crate::proofs::Writes::written_bit_is_read))]
+pub fn a_bit_written_is_read()
+    ensures { WrittenBitIsRead }
+{}
+
+/// A write changes no byte of another area, and no byte before or after those that it writes.
+#[tactic(auto, using(crate::proofs::Writes::others_are_kept))]
+pub fn other_bytes_are_kept()
+    ensures { OthersAreKept }
+{}
+
+/// After a write those pages are marked that were, and those on which a byte was written.
+#[tactic(auto, using(crate::proofs::Writes::writes_mark))]
+pub fn a_write_marks_its_pages()
+    ensures { WritesMark }
+{}
+
+/// A write moves no area to another page.
+#[tactic(auto, using(crate::proofs::Writes::pages_stay))]
+pub fn pages_stay()
+    ensures { PagesStay }
+{}

@@ -1,0 +1,13 @@
+//! The image of a CPU: the bytes of its areas, from the inputs to the registers, and a mark for each page of them.
+#![tactic(auto)]
+
+mod data;
+mod image;
+mod laws;
+mod lay;
+
+pub use image::{CpuImage, ImageFault};
+pub use laws::{
+    a_bit_written_is_read, a_value_written_is_read, a_write_marks_its_pages, other_bytes_are_kept,
+    pages_stay,
+};
