@@ -1,5 +1,6 @@
 //! Where a machine stands, as it is stored.
 
+use bit_unit::BitUnit;
 use s7_base::{BlockRef, DiagCode, StopCode};
 use statement_effects::Registers;
 use std::marker::Model;
@@ -51,11 +52,26 @@ pub enum Spot {
     At(BlockSpot),
 }
 
-/// Where a machine goes on when a block ends, and the registers that come back.
+/// What comes back when a block ends.
+#[derive(Clone, Copy, Debug)]
+pub enum Kept {
+    /// After an error OB: all registers.
+    Whole(Registers),
+    /// After a block that was called: the open groups and zones, and whether the MCR is active.
+    Brackets(BitUnit),
+}
+
+impl Default for Kept {
+    fn default() -> Kept {
+        Kept::Whole(Registers::clear())
+    }
+}
+
+/// Where a machine goes on when a block ends, and what comes back.
 #[derive(Clone, Copy, Debug, Default)]
 pub struct Frame {
     pub spot: Spot,
-    pub kept: Registers,
+    pub kept: Kept,
 }
 
 /// A diagnostic entry, with its moment in milliseconds.
