@@ -1,7 +1,7 @@
 -- Where a request is asked, and what follows a statement.
-use Rattle.std.proofs.Common.{◌≡◌, ℕ, suc, ◌+◌, ◌<◌, List, [], ◌∷◌, ◌++◌, length, Option, Some, None, Result, Ok, Err, refl, sym, ap, ◌∙◌, subst, arith, add-zero, zero-add, length-append}
+use Rattle.std.proofs.Common.{◌≡◌, ℕ, suc, ◌+◌, ◌<◌, ◌≤◌, List, [], ◌∷◌, ◌++◌, length, Option, Some, None, Result, Ok, Err, refl, sym, ap, ◌∙◌, subst, arith, add-zero, zero-add, length-append}
 use Rattle.std.specs.Prelude.{slice_get, nat_lt, if◌then◌else◌}
-use Rattle.std.proofs.lemmas.Bool.{cond_both, lt-ltb}
+use Rattle.std.proofs.lemmas.Bool.{cond_both, lt-ltb, le-ltb}
 use Rattle.s7_base.specs.declared.statement.Statement.{Statement}
 use Rattle.s7_base.specs.declared.blocks.BlockRef.{BlockRef}
 use Rattle.s7_events.specs.declared.entry.Ask.{Ask}
@@ -155,6 +155,18 @@ acts : (c : Config) (block : BlockRef) (at : ℕ) (level : Level) (decoded : Opt
 acts c block at level decoded memory to p s lt e =
     ap (turn_of c.program c.since c.memory) p
     ∙ decoded_flow c.program block at level c.since c.memory memory (slice_get (statements_of c.program block) at) decoded to s lt e
+
+tick_comes : (program : Program) (block : BlockRef) (at : ℕ) (level : Level) (since : ℕ) (before : Memory) (found : Option Statement) (decoded : Option Instruction) → option_map instruction_of found ≡ Some decoded → 256 ≤ since → runs program block at level since before found ≡ Asks (request_of asks.Tick level.priority)
+tick_comes program block at level since before None decoded s le = absurd cc
+tick_comes program block at level since before (Some statement) decoded s le =
+    ap (λ b. if b then flows program block at level (effect_of statement before).0 (effect_of statement before).1 else Asks (request_of asks.Tick level.priority)) (le-ltb since 256 le)
+
+-- a block that has completed 256 statements asks
+pub run_ticks : (c : Config) (block : BlockRef) (at : ℕ) (level : Level) (decoded : Option Instruction) (r : Request) → r ≡ request_of asks.Tick level.priority → c.place ≡ At block at level Fresh → option_map instruction_of (slice_get (statements_of c.program block) at) ≡ Some decoded → 256 ≤ c.since → Follows (turn_of c.program c.since c.memory c.place) c (Some r) c
+run_ticks c block at level decoded r is p s le =
+    subst (λ t. Follows t c (Some r) c)
+    (sym (ap (turn_of c.program c.since c.memory) p ∙ tick_comes c.program block at level c.since c.memory (slice_get (statements_of c.program block) at) decoded s le))
+    (ap Some is, refl)
 
 no_statement : (o : Option Statement) → option_map instruction_of o ≡ None → o ≡ None
 no_statement None e = refl

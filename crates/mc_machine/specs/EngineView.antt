@@ -11,8 +11,9 @@ use Rattle.mc_machine.specs.declared.places.Mode.{Mode as StoredMode}
 use Rattle.mc_machine.specs.declared.places.Mode.TheVariants as modes
 use Rattle.mc_machine.specs.declared.places.Spot.{Spot}
 use Rattle.mc_machine.specs.declared.places.Spot.TheVariants as spots
-use Rattle.mc_machine.specs.declared.places.Kept.{Kept as StoredKept}
-use Rattle.mc_machine.specs.declared.places.Kept.TheVariants as keeps
+use Rattle.statement_effects.specs.declared.areas.Registers.{Registers}
+use Rattle.mc_machine.specs.declared.places.Returns.{Returns}
+use Rattle.mc_machine.specs.declared.places.Returns.TheVariants as returns
 use Rattle.mc_machine.specs.declared.places.Frame.{Frame as StoredFrame}
 use Rattle.mc_machine.specs.Places.{Level, Mode, Fresh, Ticking, Timing, Place, AtOutputs, AtInputs, AtCycle, AtStop, Over, At, Kept, Whole, Brackets, Frame}
 use Rattle.mc_machine.specs.Stands.{Config, Running}
@@ -33,12 +34,12 @@ place_of (spots.AtStop code) = AtStop code
 place_of spots.Over = Over
 place_of (spots.At spot) = At spot.block spot.at (level_in spot.level) (mode_of spot.mode)
 
-abbrev pub kept_of : StoredKept → Kept
-kept_of (keeps.Whole registers) = Whole registers
-kept_of (keeps.Brackets unit) = Brackets unit
+abbrev pub kept_of : Returns → Registers → Kept
+kept_of returns.Whole registers = Whole registers
+kept_of returns.Brackets registers = Brackets registers.unit
 
 abbrev pub frame_of : StoredFrame → Frame
-frame_of frame = record { place = place_of frame.spot; kept = kept_of frame.kept }
+frame_of frame = record { place = place_of frame.spot; kept = kept_of frame.returns frame.kept }
 
 abbrev pub config_of : Engine → Config
 config_of engine = record {

@@ -14,7 +14,7 @@ use crate::levels::{
     call_registers, entered, error_level, error_ob, error_registers, local_bytes, main_level,
     restored,
 };
-use crate::places::{BlockSpot, Frame, Kept, Level, Mode, Note, Spot};
+use crate::places::{BlockSpot, Frame, Level, Mode, Note, Returns, Spot};
 use arrayvec::ArrayVec;
 use s7_base::{Answer, Ask, BlockRef, Blocks, CodeKind, DiagCode, Loss, Request, Side, StopCode};
 use statement_effects::{DecodedBlock, Flow, Instruction, Memory, Registers};
@@ -436,7 +436,8 @@ impl Engine {
         self.memory.set_registers(Registers::clear());
         let frame = Frame {
             spot: Spot::AtCycle,
-            kept: Kept::Whole(Registers::clear()),
+            kept: Registers::clear(),
+            returns: Returns::Whole,
         };
         self.begin(ob(1), level, frame);
     }
@@ -557,7 +558,8 @@ impl Engine {
                 let registers = self.memory.registers();
                 let frame = Frame {
                     spot: at_statement(spot, spot.at + 1),
-                    kept: Kept::Whole(registers),
+                    kept: registers,
+                    returns: Returns::Whole,
                 };
                 self.memory.set_registers(error_registers(&registers));
                 self.begin(ob(error_ob(error)), level, frame);
@@ -634,7 +636,8 @@ impl Engine {
         let registers = self.memory.registers();
         let frame = Frame {
             spot: at_statement(spot, spot.at + 1),
-            kept: Kept::Brackets(registers.unit),
+            kept: registers,
+            returns: Returns::Brackets,
         };
         self.memory.set_registers(call_registers(&registers));
         self.begin(callee, level, frame);
@@ -701,7 +704,7 @@ impl Engine {
         };
         let mut registers = self.memory.registers();
         registers.status.after_block();
-        self.memory.set_registers(restored(registers, frame.kept));
+        self.memory.set_registers(restored(&registers, &frame));
         self.spot = frame.spot;
     }
 }

@@ -3,7 +3,7 @@ ghost use Rattle.std.specs.Prelude.{◌≡◌, ◌<◌, ◌+◌, Ok, Err, IfOk, 
 ghost use Rattle.mc_machine.specs.Meaning.{local_bytes_of, level_of, entered, error_ob, no_error_ob, error_level, error_registers, call_registers, restored};
 ghost use Rattle.mc_machine.specs.EngineView.{level_in, kept_of};
 
-use crate::places::{Kept, Level};
+use crate::places::{Frame, Level, Returns};
 use bit_unit::BitUnit;
 use s7_base::{Blocks, CodeBlock, CodeKind, StopCode};
 use statement_effects::Registers;
@@ -121,12 +121,15 @@ pub fn call_registers(registers: &Registers) -> Registers
     inside
 }
 
-/// The registers when what was kept comes back.
-pub fn restored(registers: Registers, kept: Kept) -> Registers
-    ensures { result ≡ restored registers (kept_of kept) }
+/// The registers when a frame goes on, with what comes back of those that it kept.
+pub fn restored(registers: &Registers, frame: &Frame) -> Registers
+    ensures { result ≡ restored registers.now (kept_of frame.now.returns frame.now.kept) }
 {
-    match kept {
-        Kept::Whole(registers) => registers,
-        Kept::Brackets(unit) => Registers { unit, ..registers },
+    match frame.returns {
+        Returns::Whole => frame.kept,
+        Returns::Brackets => Registers {
+            unit: frame.kept.unit,
+            ..*registers
+        },
     }
 }

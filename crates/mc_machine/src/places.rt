@@ -1,6 +1,5 @@
 //! Where a machine stands, as it is stored.
 
-use bit_unit::BitUnit;
 use s7_base::{BlockRef, DiagCode, StopCode};
 use statement_effects::Registers;
 use std::marker::Model;
@@ -52,26 +51,22 @@ pub enum Spot {
     At(BlockSpot),
 }
 
-/// What comes back when a block ends.
-#[derive(Clone, Copy, Debug)]
-pub enum Kept {
-    /// After an error OB: all registers.
-    Whole(Registers),
+/// What comes back, when a block ends, of the registers that were kept when it began.
+#[derive(Clone, Copy, Debug, Default)]
+pub enum Returns {
+    /// After an error OB: all of them.
+    #[default]
+    Whole,
     /// After a block that was called: the open groups and zones, and whether the MCR is active.
-    Brackets(BitUnit),
+    Brackets,
 }
 
-impl Default for Kept {
-    fn default() -> Kept {
-        Kept::Whole(Registers::clear())
-    }
-}
-
-/// Where a machine goes on when a block ends, and what comes back.
+/// Where a machine goes on when a block ends, the registers that were kept, and what of them comes back.
 #[derive(Clone, Copy, Debug, Default)]
 pub struct Frame {
     pub spot: Spot,
-    pub kept: Kept,
+    pub kept: Registers,
+    pub returns: Returns,
 }
 
 /// A diagnostic entry, with its moment in milliseconds.
