@@ -7,14 +7,14 @@ use Rattle.s7_base.specs.declared.blocks.BlockRef.{BlockRef}
 use Rattle.s7_events.specs.declared.entry.Request.{Request}
 use Rattle.s7_events.specs.declared.entry.Answer.{Answer}
 use Rattle.s7_events.specs.declared.entry.StopCode.{StopCode}
-use Rattle.s7_base.specs.Blocks.{Program}
+use Rattle.s7_base.specs.Blocks.{Code, Program, code_of}
 use Rattle.statement_effects.specs.State.{Memory}
 use Rattle.mc_machine.specs.Places.{Level, Fresh, Ticking, Timing, Place, AtOutputs, AtInputs, AtCycle, AtStop, Over, At}
 use Rattle.statement_effects.specs.declared.instruction.Flow.{Flow}
 use Rattle.statement_effects.specs.declared.instruction.Flow.TheVariants as flow
 use Rattle.statement_effects.specs.Areas.{with_registers}
 use Rattle.statement_effects.specs.Effect.{effect_of}
-use Rattle.mc_machine.specs.Meaning.{State, Undefined, Rest, Meaning, Move, Goes, Calls, Reaction, Again, Completes, Turn, Asks, Moves, Halts, Leaves, Ends, statements_of, error_level, failed, flows, stop_request, takes_at, answered, at_block_end, resume, noting, moves, reacts, completed, took, asking, does, runs, turn_of, turn, body_within, left, body}
+use Rattle.mc_machine.specs.Meaning.{State, Undefined, Rest, Meaning, Move, Goes, Calls, Reaction, Again, Completes, Turn, Asks, Moves, Halts, Leaves, Ends, statements_of, local_bytes_of, entered, error_level, failed, begun, called, flows, stop_request, takes_at, answered, at_block_end, restored, resume, noting, moves, reacts, completed, took, asking, does, runs, turn_of, turn, body_within, left, body}
 
 -- two continuations agree wherever no more is left than this
 pub record Agree (rest rest' : Rest) (bound : ℕ) : Type 0 where
@@ -32,7 +32,7 @@ moves_same m m' rest rest' b s a lt same agree (Goes memory p) =
     same.at p rest rest' (record s { memory = memory }) a lt (less_agrees rest rest' b (left s a) (omega arith) agree)
 moves_same m m' rest rest' b s a lt same agree (Calls memory p f) =
     same.at p (resume m f rest) (resume m' f rest') (record s { memory = memory }) a lt
-    (record { at = λ s2 a2 h. same.at f.place rest rest' (record s2 { memory = with_registers s2.memory f.kept }) a2 (omega arith) (less_agrees rest rest' b (left s2 a2) (omega arith) agree) })
+    (record { at = λ s2 a2 h. same.at f.place rest rest' (record s2 { memory = with_registers s2.memory (restored s2.memory.registers f.kept) }) a2 (omega arith) (less_agrees rest rest' b (left s2 a2) (omega arith) agree) })
 
 reacts_same : (m m' : Meaning) (rest rest' : Rest) (b : ℕ) (s : State) (a : List Answer) → left s a < b → Same m m' b → Agree rest rest' b → (v : Reaction) → reacts m rest s a v ≡ reacts m' rest' s a v
 reacts_same m m' rest rest' b s a lt same agree (Again n v) = moves_same m m' rest rest' b (noting s n) a lt same agree v
@@ -69,10 +69,20 @@ counts_failed : (next : Place) (memory : Memory) (error since : ℕ) → since <
 counts_failed next memory error since lt (Ok level) = lt
 counts_failed next memory error since lt (Err code) = tt
 
+counts_begun : (next : Place) (memory : Memory) (callee : BlockRef) (since : ℕ) → since < 256 → (r : Result Level StopCode) → Counts (begun next memory callee r) since
+counts_begun next memory callee since lt (Ok level) = lt
+counts_begun next memory callee since lt (Err code) = tt
+
+counts_called : (program : Program) (next : Place) (level : Level) (memory : Memory) (callee : BlockRef) (since : ℕ) → since < 256 → (r : Option Code) → Counts (called program next level memory callee r) since
+counts_called program next level memory callee since lt None = counts_failed next memory 7 since lt (error_level program level 7)
+counts_called program next level memory callee since lt (Some code) = counts_begun next memory callee since lt (entered level (local_bytes_of code))
+
 counts_flows : (program : Program) (block : BlockRef) (at : ℕ) (level : Level) (since : ℕ) (memory : Memory) → since < 256 → (to : Flow) → Counts (flows program block at level memory to) since
 counts_flows program block at level since memory lt flow.Next = lt
 counts_flows program block at level since memory lt (flow.Jump target) = lt
 counts_flows program block at level since memory lt (flow.Among number target) = lt
+counts_flows program block at level since memory lt (flow.Call callee) =
+    counts_called program (At block (at + 1) level Fresh) level memory callee since lt (code_of program callee.kind callee.number)
 counts_flows program block at level since memory lt flow.End = lt
 counts_flows program block at level since memory lt (flow.Fail error) =
     counts_failed (At block (at + 1) level Fresh) memory error since lt (error_level program level error)

@@ -1,30 +1,43 @@
 -- Where a request is asked, and what follows a statement.
-use Rattle.std.proofs.Common.{◌≡◌, ℕ, suc, ◌+◌, ◌<◌, List, [], ◌∷◌, ◌++◌, length, Option, Some, None, Result, Ok, Err, refl, sym, ap, ◌∙◌, subst, arith, add-zero, zero-add, length-append}
+use Rattle.std.proofs.Common.{◌≡◌, ℕ, suc, ◌+◌, ◌<◌, ◌≤◌, List, [], ◌∷◌, ◌++◌, length, Option, Some, None, Result, Ok, Err, refl, sym, ap, ◌∙◌, subst, arith, add-zero, zero-add, length-append}
 use Rattle.std.specs.Prelude.{slice_get, nat_lt, if◌then◌else◌}
-use Rattle.std.proofs.lemmas.Bool.{cond_both, lt-ltb}
+use Rattle.std.proofs.lemmas.Bool.{cond_both, lt-ltb, le-ltb}
 use Rattle.s7_base.specs.declared.statement.Statement.{Statement}
 use Rattle.s7_base.specs.declared.blocks.BlockRef.{BlockRef}
 use Rattle.s7_events.specs.declared.entry.Ask.{Ask}
 use Rattle.s7_events.specs.declared.entry.Ask.TheVariants as asks
 use Rattle.s7_events.specs.declared.entry.Request.{Request}
 use Rattle.s7_events.specs.declared.entry.StopCode.{StopCode}
-use Rattle.s7_base.specs.Blocks.{Program}
+use Rattle.s7_base.specs.Blocks.{Code, Program, code_of}
 use Rattle.statement_effects.specs.State.{Memory}
 use Rattle.mc_machine.specs.Places.{Level, Mode, Fresh, Ticking, Timing, Place, AtOutputs, AtInputs, AtCycle, AtStop, Over, At, Frame}
 use Rattle.statement_effects.specs.declared.instruction.Flow.{Flow}
 use Rattle.statement_effects.specs.declared.instruction.Flow.TheVariants as flow
-use Rattle.statement_effects.specs.Effect.{effect_of}
-use Rattle.mc_machine.specs.Meaning.{Turn, Asks, Moves, Halts, Leaves, Ends, Goes, Calls, statements_of, error_level, failed, flows, runs, turn_of, request_of, stop_request}
+use Rattle.statement_effects.specs.Effect.{effect_of, effect_if}
+use Rattle.statement_effects.specs.Reading.{instruction_of}
+use Rattle.statement_effects.specs.declared.instruction.Instruction.{Instruction}
+use Rattle.std.specs.Option.{option_map}
+use Rattle.mc_machine.specs.Meaning.{Turn, Asks, Moves, Halts, Leaves, Ends, Goes, Calls, statements_of, local_bytes_of, entered, error_level, failed, begun, called, flows, runs, turn_of, request_of, stop_request}
 use Rattle.mc_machine.specs.Stands.{Config, Follows, AsksAt, IsAsked, IsAskedAt, IsTurned, halts_with, IsHigh, AreStacked, IsSound}
 
 asked_failed : (next : Place) (memory : Memory) (error : ℕ) (r : Request) (o : Result Level StopCode) → failed next memory error o ≡ Asks r → ⊥
 asked_failed next memory error r (Ok level) e = cc
 asked_failed next memory error r (Err code) e = cc
 
+asked_begun : (next : Place) (memory : Memory) (callee : BlockRef) (r : Request) (o : Result Level StopCode) → begun next memory callee o ≡ Asks r → ⊥
+asked_begun next memory callee r (Ok level) e = cc
+asked_begun next memory callee r (Err code) e = cc
+
+asked_called : (program : Program) (next : Place) (level : Level) (memory : Memory) (callee : BlockRef) (r : Request) (o : Option Code) → called program next level memory callee o ≡ Asks r → ⊥
+asked_called program next level memory callee r None e = asked_failed next memory 7 r (error_level program level 7) e
+asked_called program next level memory callee r (Some code) e = asked_begun next memory callee r (entered level (local_bytes_of code)) e
+
 asked_flow : (program : Program) (block : BlockRef) (at : ℕ) (level : Level) (memory : Memory) (r : Request) (to : Flow) → flows program block at level memory to ≡ Asks r → IsAskedAt (At block at level Fresh) r.ask
 asked_flow program block at level memory r flow.Next e = absurd cc
 asked_flow program block at level memory r (flow.Jump target) e = absurd cc
 asked_flow program block at level memory r (flow.Among number target) e = absurd cc
+asked_flow program block at level memory r (flow.Call callee) e =
+    absurd (asked_called program (At block (at + 1) level Fresh) level memory callee r (code_of program callee.kind callee.number) e)
 asked_flow program block at level memory r flow.End e = absurd cc
 asked_flow program block at level memory r (flow.Fail error) e =
     absurd (asked_failed (At block (at + 1) level Fresh) memory error r (error_level program level error) e)
@@ -92,9 +105,7 @@ high_push n (f ∷ frames) frame s h =
 
 -- there is a frame under a block
 pub high_some : (n : ℕ) (block : BlockRef) (at : ℕ) (level : Level) (mode : Mode) → IsHigh n (At block at level mode) → 0 < n
-high_some n block at level mode h =
-    let some : 0 < (if level.in_error then 2 else 1) = cond_both level.in_error _ _ (λ k. 0 < k) (λ _. omega arith) (λ _. omega arith) in
-    subst (λ k. 0 < k) (sym h) some
+high_some n block at level mode h = h.1
 
 -- a block begins over the place where another goes on
 pub push_sound : (c c' : Config) (frame : Frame) → c'.frames ≡ c.frames ++ frame ∷ [] → AreStacked 0 c.frames → IsHigh (length c.frames) frame.place → IsHigh (length c.frames + 1) c'.place → IsSound c'
@@ -131,28 +142,67 @@ turned_halts Ends c c' r e n = absurd e
 
 -- a turn in a block --
 
+-- what a decoded statement does is what the statement does
+decoded_flow : (program : Program) (block : BlockRef) (at : ℕ) (level : Level) (since : ℕ) (before memory : Memory) (found : Option Statement) (decoded : Option Instruction) (to : Flow) → option_map instruction_of found ≡ Some decoded → since < 256 → effect_if decoded before ≡ (memory, to) → runs program block at level since before found ≡ flows program block at level memory to
+decoded_flow program block at level since before memory None decoded to s lt e = absurd cc
+decoded_flow program block at level since before memory (Some statement) decoded to s lt e =
+    let same : instruction_of statement ≡ decoded = cc in
+    ap (λ b. if b then flows program block at level (effect_of statement before).0 (effect_of statement before).1 else Asks (request_of asks.Tick level.priority)) (lt-ltb since 256 lt)
+    ∙ ap (λ (x : Memory × Flow). flows program block at level x.0 x.1) (ap (λ i. effect_if i before) same ∙ e)
+
 -- the turn at a place in a block, from what was found there
-acts : (c : Config) (block : BlockRef) (at : ℕ) (level : Level) (statement : Statement) (memory : Memory) (to : Flow) → c.place ≡ At block at level Fresh → slice_get (statements_of c.program block) at ≡ Some statement → c.since < 256 → effect_of statement c.memory ≡ (memory, to) → turn_of c.program c.since c.memory c.place ≡ flows c.program block at level memory to
-acts c block at level statement memory to p s lt e =
+acts : (c : Config) (block : BlockRef) (at : ℕ) (level : Level) (decoded : Option Instruction) (memory : Memory) (to : Flow) → c.place ≡ At block at level Fresh → option_map instruction_of (slice_get (statements_of c.program block) at) ≡ Some decoded → c.since < 256 → effect_if decoded c.memory ≡ (memory, to) → turn_of c.program c.since c.memory c.place ≡ flows c.program block at level memory to
+acts c block at level decoded memory to p s lt e =
     ap (turn_of c.program c.since c.memory) p
-    ∙ ap (runs c.program block at level c.since c.memory) s
-    ∙ ap (λ b. if b then flows c.program block at level (effect_of statement c.memory).0 (effect_of statement c.memory).1 else Asks (request_of asks.Tick level.priority)) (lt-ltb c.since 256 lt)
-    ∙ ap (λ (x : Memory × Flow). flows c.program block at level x.0 x.1) e
+    ∙ decoded_flow c.program block at level c.since c.memory memory (slice_get (statements_of c.program block) at) decoded to s lt e
+
+tick_comes : (program : Program) (block : BlockRef) (at : ℕ) (level : Level) (since : ℕ) (before : Memory) (found : Option Statement) (decoded : Option Instruction) → option_map instruction_of found ≡ Some decoded → 256 ≤ since → runs program block at level since before found ≡ Asks (request_of asks.Tick level.priority)
+tick_comes program block at level since before None decoded s le = absurd cc
+tick_comes program block at level since before (Some statement) decoded s le =
+    ap (λ b. if b then flows program block at level (effect_of statement before).0 (effect_of statement before).1 else Asks (request_of asks.Tick level.priority)) (le-ltb since 256 le)
+
+-- a block that has completed 256 statements asks
+pub run_ticks : (c : Config) (block : BlockRef) (at : ℕ) (level : Level) (decoded : Option Instruction) (r : Request) → r ≡ request_of asks.Tick level.priority → c.place ≡ At block at level Fresh → option_map instruction_of (slice_get (statements_of c.program block) at) ≡ Some decoded → 256 ≤ c.since → Follows (turn_of c.program c.since c.memory c.place) c (Some r) c
+run_ticks c block at level decoded r is p s le =
+    subst (λ t. Follows t c (Some r) c)
+    (sym (ap (turn_of c.program c.since c.memory) p ∙ tick_comes c.program block at level c.since c.memory (slice_get (statements_of c.program block) at) decoded s le))
+    (ap Some is, refl)
+
+no_statement : (o : Option Statement) → option_map instruction_of o ≡ None → o ≡ None
+no_statement None e = refl
+no_statement (Some statement) e = absurd cc
+
+-- behind the last statement the block ends
+pub run_leaves : (c c' : Config) (block : BlockRef) (at : ℕ) (level : Level) → c.place ≡ At block at level Fresh → option_map instruction_of (slice_get (statements_of c.program block) at) ≡ None → Follows Leaves c None c' → Follows (turn_of c.program c.since c.memory c.place) c None c'
+run_leaves c c' block at level p s f =
+    subst (λ t. Follows t c None c')
+    (sym (ap (turn_of c.program c.since c.memory) p ∙ ap (runs c.program block at level c.since c.memory) (no_statement (slice_get (statements_of c.program block) at) s)))
+    f
 
 changed_failed : (c c' : Config) (next : Place) (memory : Memory) (error : ℕ) (o : Option Request) (r : Result Level StopCode) → Follows (failed next memory error r) (record c { memory = memory }) o c' → Follows (failed next memory error r) c o c'
 changed_failed c c' next memory error o (Ok level) f = f
 changed_failed c c' next memory error o (Err code) f = f
+
+changed_begun : (c c' : Config) (next : Place) (memory : Memory) (callee : BlockRef) (o : Option Request) (r : Result Level StopCode) → Follows (begun next memory callee r) (record c { memory = memory }) o c' → Follows (begun next memory callee r) c o c'
+changed_begun c c' next memory callee o (Ok level) f = f
+changed_begun c c' next memory callee o (Err code) f = f
+
+changed_called : (program : Program) (c c' : Config) (next : Place) (level : Level) (memory : Memory) (callee : BlockRef) (o : Option Request) (r : Option Code) → Follows (called program next level memory callee r) (record c { memory = memory }) o c' → Follows (called program next level memory callee r) c o c'
+changed_called program c c' next level memory callee o None f = changed_failed c c' next memory 7 o (error_level program level 7) f
+changed_called program c c' next level memory callee o (Some code) f = changed_begun c c' next memory callee o (entered level (local_bytes_of code)) f
 
 -- what follows the changed memory follows the place
 changed : (program : Program) (c c' : Config) (block : BlockRef) (at : ℕ) (level : Level) (memory : Memory) (o : Option Request) (to : Flow) → (to ≡ flow.AskNow → memory ≡ c.memory) → Follows (flows program block at level memory to) (record c { memory = memory }) o c' → Follows (flows program block at level memory to) c o c'
 changed program c c' block at level memory o flow.Next u f = f
 changed program c c' block at level memory o (flow.Jump target) u f = f
 changed program c c' block at level memory o (flow.Among number target) u f = f
+changed program c c' block at level memory o (flow.Call callee) u f =
+    changed_called program c c' (At block (at + 1) level Fresh) level memory callee o (code_of program callee.kind callee.number) f
 changed program c c' block at level memory o flow.End u f = f
 changed program c c' block at level memory o (flow.Fail error) u f =
     changed_failed c c' (At block (at + 1) level Fresh) memory error o (error_level program level error) f
 changed program c c' block at level memory o flow.AskNow u f = (f.0, f.1 ∙ ap (λ m. record c { memory = m }) (u refl))
 
-pub run_follows : (c c' : Config) (block : BlockRef) (at : ℕ) (level : Level) (statement : Statement) (memory : Memory) (to : Flow) (o : Option Request) → c.place ≡ At block at level Fresh → slice_get (statements_of c.program block) at ≡ Some statement → c.since < 256 → effect_of statement c.memory ≡ (memory, to) → (to ≡ flow.AskNow → memory ≡ c.memory) → Follows (flows c.program block at level memory to) (record c { memory = memory }) o c' → Follows (turn_of c.program c.since c.memory c.place) c o c'
-run_follows c c' block at level statement memory to o p s lt e u f =
-    subst (λ t. Follows t c o c') (sym (acts c block at level statement memory to p s lt e)) (changed c.program c c' block at level memory o to u f)
+pub run_follows : (c c' : Config) (block : BlockRef) (at : ℕ) (level : Level) (decoded : Option Instruction) (memory : Memory) (to : Flow) (o : Option Request) → c.place ≡ At block at level Fresh → option_map instruction_of (slice_get (statements_of c.program block) at) ≡ Some decoded → c.since < 256 → effect_if decoded c.memory ≡ (memory, to) → (to ≡ flow.AskNow → memory ≡ c.memory) → Follows (flows c.program block at level memory to) (record c { memory = memory }) o c' → Follows (turn_of c.program c.since c.memory c.place) c o c'
+run_follows c c' block at level decoded memory to o p s lt e u f =
+    subst (λ t. Follows t c o c') (sym (acts c block at level decoded memory to p s lt e)) (changed c.program c c' block at level memory o to u f)

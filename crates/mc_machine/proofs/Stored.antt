@@ -1,11 +1,18 @@
 -- The frames of an engine, and how blocks are found.
-use Rattle.std.proofs.Common.{◌≡◌, ℕ, zero, suc, ◌<◌, ◌≤◌, ◌==◌, Bool, true, List, [], ◌∷◌, ◌++◌, length, drop, Some, None, slice_get, get_or, map, refl, sym, ap, ◌∙◌, subst, arith}
+use Rattle.std.proofs.Common.{◌≡◌, ℕ, zero, suc, ◌<◌, ◌≤◌, ◌==◌, Bool, true, List, [], ◌∷◌, ◌++◌, length, drop, Option, Some, None, slice_get, get_or, map, refl, sym, ap, ◌∙◌, subst, arith}
 use Rattle.std.specs.Prelude.{◌&&◌, if◌then◌else◌}
 use Rattle.std.proofs.lemmas.List.{length-map, map-append, at_drop_all}
 use Rattle.s7_base.specs.declared.blocks.CodeKind.{CodeKind}
-use Rattle.s7_base.specs.Blocks.{Code, Program, same_kind, code_named}
+use Rattle.std.specs.Option.{option_map}
+use Rattle.std.proofs.lemmas.Option.{slice_get-map}
+use Rattle.s7_events.specs.Optional.{◌>>=◌}
+use Rattle.s7_base.specs.declared.blocks.BlockRef.{BlockRef}
+use Rattle.s7_base.specs.Blocks.{Code, Program, code_of, same_kind, code_named}
+use Rattle.statement_effects.specs.declared.instruction.Instruction.{Instruction}
+use Rattle.statement_effects.specs.Reading.{instruction_of}
+use Rattle.mc_machine.specs.Meaning.{statements_in, statements_of}
 use Rattle.mc_machine.specs.declared.places.Frame.{Frame as StoredFrame}
-use Rattle.mc_machine.specs.EngineView.{frame_of, IsIndexed, AreIndexed}
+use Rattle.mc_machine.specs.EngineView.{frame_of, decoded_codes, decoded_in, IsCode, IsIndexed, AreIndexed}
 
 pub frames_push : (xs zs : List StoredFrame) (f : StoredFrame) → zs ≡ xs ++ f ∷ [] → map frame_of zs ≡ map frame_of xs ++ frame_of f ∷ []
 frames_push xs zs f e = ap (map frame_of) e ∙ map-append frame_of xs (f ∷ [])
@@ -60,3 +67,15 @@ none_behind (x ∷ xs) = none_behind xs
 pub named_behind : (codes : List Code) (i : ℕ) (kind : CodeKind) (number : ℕ) → length codes ≤ i → code_named (drop i codes) kind number ≡ code_named codes kind number → slice_get codes (length codes) ≡ code_named codes kind number
 named_behind codes i kind number le before =
     none_behind codes ∙ sym (at_drop_all (λ (rest : List Code). code_named rest kind number) codes i le) ∙ before
+
+found_in : (o : Option Code) (at : ℕ) → (option_map (λ code. map instruction_of code.statements) o >>= λ block. slice_get block at) ≡ option_map instruction_of (slice_get (statements_in o) at)
+found_in None at = refl
+found_in (Some code) at = slice_get-map instruction_of code.statements at
+
+-- the decoded statement of a block that is found by its index is that of its name
+pub decoded_found : (program : Program) (decoded : List (List (Option Instruction))) (code at : ℕ) (block : BlockRef) → decoded ≡ decoded_codes program.codes → IsCode program code block → decoded_in decoded code at ≡ option_map instruction_of (slice_get (statements_of program block) at)
+decoded_found program decoded code at block made is =
+    ap (λ d. decoded_in d code at) made
+    ∙ ap (λ o. o >>= λ block. slice_get block at) (slice_get-map (λ (code : Code). map instruction_of code.statements) program.codes code)
+    ∙ ap (λ o. option_map (λ code. map instruction_of code.statements) o >>= λ block. slice_get block at) is
+    ∙ found_in (code_of program block.kind block.number) at

@@ -1,15 +1,21 @@
 -- What an engine is, apart from how it is stored: a block that has begun is found by its index among the code blocks.
-use Rattle.std.specs.Prelude.{◌≡◌, ℕ, List, [], ◌∷◌, map, slice_get}
+use Rattle.std.specs.Prelude.{◌≡◌, ℕ, List, [], ◌∷◌, map, slice_get, Option}
+use Rattle.s7_events.specs.Optional.{◌>>=◌}
 use Rattle.s7_base.specs.declared.blocks.BlockRef.{BlockRef}
-use Rattle.s7_base.specs.Blocks.{Program, code_of}
+use Rattle.s7_base.specs.Blocks.{Code, Program, code_of}
+use Rattle.statement_effects.specs.declared.instruction.Instruction.{Instruction}
+use Rattle.statement_effects.specs.Reading.{instruction_of}
 use Rattle.mc_machine.specs.declared.engine.Engine.{Engine}
 use Rattle.mc_machine.specs.declared.places.Level.{Level as StoredLevel}
 use Rattle.mc_machine.specs.declared.places.Mode.{Mode as StoredMode}
 use Rattle.mc_machine.specs.declared.places.Mode.TheVariants as modes
 use Rattle.mc_machine.specs.declared.places.Spot.{Spot}
 use Rattle.mc_machine.specs.declared.places.Spot.TheVariants as spots
+use Rattle.statement_effects.specs.declared.areas.Registers.{Registers}
+use Rattle.mc_machine.specs.declared.places.Returns.{Returns}
+use Rattle.mc_machine.specs.declared.places.Returns.TheVariants as returns
 use Rattle.mc_machine.specs.declared.places.Frame.{Frame as StoredFrame}
-use Rattle.mc_machine.specs.Places.{Level, Mode, Fresh, Ticking, Timing, Place, AtOutputs, AtInputs, AtCycle, AtStop, Over, At, Frame}
+use Rattle.mc_machine.specs.Places.{Level, Mode, Fresh, Ticking, Timing, Place, AtOutputs, AtInputs, AtCycle, AtStop, Over, At, Kept, Whole, Brackets, Frame}
 use Rattle.mc_machine.specs.Stands.{Config, Running}
 
 abbrev pub level_in : StoredLevel → Level
@@ -28,8 +34,12 @@ place_of (spots.AtStop code) = AtStop code
 place_of spots.Over = Over
 place_of (spots.At spot) = At spot.block spot.at (level_in spot.level) (mode_of spot.mode)
 
+abbrev pub kept_of : Returns → Registers → Kept
+kept_of returns.Whole registers = Whole registers
+kept_of returns.Brackets registers = Brackets registers.unit
+
 abbrev pub frame_of : StoredFrame → Frame
-frame_of frame = record { place = place_of frame.spot; kept = frame.kept }
+frame_of frame = record { place = place_of frame.spot; kept = kept_of frame.returns frame.kept }
 
 abbrev pub config_of : Engine → Config
 config_of engine = record {
@@ -45,6 +55,23 @@ config_of engine = record {
 
 abbrev pub running_of : Engine → Running
 running_of engine = record { config = config_of engine; waits = engine.waits }
+
+-- the block goes to another of its statements
+abbrev pub gone_to : Place → ℕ → Place
+gone_to (At block at level mode) next = At block next level mode
+gone_to AtOutputs next = AtOutputs
+gone_to AtInputs next = AtInputs
+gone_to AtCycle next = AtCycle
+gone_to (AtStop code) next = AtStop code
+gone_to Over next = Over
+
+-- the code blocks, each statement as the instruction that it means
+abbrev pub decoded_codes : List Code → List (List (Option Instruction))
+decoded_codes codes = map (λ code. map instruction_of code.statements) codes
+
+-- the decoded statement of a code block at a place
+abbrev pub decoded_in : List (List (Option Instruction)) → ℕ → ℕ → Option (Option Instruction)
+decoded_in decoded code at = slice_get decoded code >>= λ block. slice_get block at
 
 -- the index of a block among the code blocks; behind them where it is not loaded
 abbrev pub IsCode : Program → ℕ → BlockRef → Type 0
@@ -62,7 +89,8 @@ abbrev pub AreIndexed : Program → List StoredFrame → Type 0
 AreIndexed program [] = Unit {0}
 AreIndexed program (frame ∷ frames) = IsIndexed program frame.spot × AreIndexed program frames
 
--- each block that runs, or goes on later, is found by its index
+-- each block that runs, or goes on later, is found by its index, and its statements were decoded
 pub record IsStored (engine : Engine) : Type 0 where
   pub here : IsIndexed engine.program engine.spot
   pub later : AreIndexed engine.program engine.frames.items
+  pub decoded : engine.decoded.items ≡ decoded_codes engine.program.codes

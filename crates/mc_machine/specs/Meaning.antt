@@ -19,9 +19,10 @@ use Rattle.s7_events.specs.Fitting.{fits}
 use Rattle.s7_events.specs.Priorities.{priority_of}
 use Rattle.s7_events.specs.declared.entry.StopCode.{StopCode}
 use Rattle.s7_events.specs.declared.entry.StopCode.TheVariants as stops
+use Rattle.bit_unit.specs.State.{cleared_unit}
 use Rattle.statement_effects.specs.State.{Memory}
 use Rattle.statement_effects.specs.declared.areas.Registers.{Registers}
-use Rattle.mc_machine.specs.Places.{Level, Mode, Fresh, Ticking, Timing, Place, AtOutputs, AtInputs, AtCycle, AtStop, Over, At, Frame, Note}
+use Rattle.mc_machine.specs.Places.{Level, Mode, Fresh, Ticking, Timing, Place, AtOutputs, AtInputs, AtCycle, AtStop, Over, At, Kept, Whole, Brackets, Frame, Note}
 use Rattle.statement_effects.specs.declared.instruction.Instruction.{Instruction}
 use Rattle.statement_effects.specs.declared.instruction.Instruction.TheVariants.{Timed}
 use Rattle.statement_effects.specs.declared.instruction.Flow.{Flow}
@@ -159,11 +160,31 @@ abbrev pub failed : Place → Memory → ℕ → Result Level StopCode → Turn
 failed next memory error (Err code) = Halts (Some (notes.Error error)) memory code
 failed next memory error (Ok level) =
     Moves (Some (notes.Error error))
-    (Calls (with_registers memory (error_registers memory.registers)) (At (record { kind = Ob; number = error_ob error }) 0 level Fresh) (record { place = next; kept = memory.registers }))
+    (Calls (with_registers memory (error_registers memory.registers)) (At (record { kind = Ob; number = error_ob error }) 0 level Fresh) (record { place = next; kept = Whole memory.registers }))
 
 -- a statement fails that another place follows
 abbrev pub fails : Program → Place → Level → Memory → ℕ → Turn
 fails program next level memory error = failed next memory error (error_level program level error)
+
+-- calls --
+
+-- a called block begins with the status row of a call, no group and no zone open, and the MCR not active
+abbrev pub call_registers : Registers → Registers
+call_registers registers = record registers { status = effect_end registers.status; unit = cleared_unit }
+
+-- a called block begins, and at its end another place goes on; or there is no depth or local data left, and the CPU asks to stop
+abbrev pub begun : Place → Memory → BlockRef → Result Level StopCode → Turn
+begun next memory callee (Err code) = Halts None memory code
+begun next memory callee (Ok level) =
+    Moves None (Calls (with_registers memory (call_registers memory.registers)) (At callee 0 level Fresh) (record { place = next; kept = Brackets memory.registers.unit }))
+
+-- a block is called, at whose end another place goes on; one that is not loaded is error 7
+abbrev pub called : Program → Place → Level → Memory → BlockRef → Option Code → Turn
+called program next level memory callee None = fails program next level memory 7
+called program next level memory callee (Some code) = begun next memory callee (entered level (local_bytes_of code))
+
+abbrev pub calls : Program → Place → Level → Memory → BlockRef → Turn
+calls program next level memory callee = called program next level memory callee (code_of program callee.kind callee.number)
 
 -- the statements --
 
@@ -172,6 +193,7 @@ abbrev pub flows : Program → BlockRef → ℕ → Level → Memory → Flow �
 flows program block at level memory flow.Next = Moves None (Goes memory (At block (at + 1) level Fresh))
 flows program block at level memory (flow.Jump target) = Moves None (Goes memory (At block target level Fresh))
 flows program block at level memory (flow.Among number target) = Moves None (Goes memory (At block (jump_among at number target) level Fresh))
+flows program block at level memory (flow.Call callee) = calls program (At block (at + 1) level Fresh) level memory callee
 flows program block at level memory flow.End = Moves None (Goes memory (At block (length (statements_of program block)) level Fresh))
 flows program block at level memory (flow.Fail error) = fails program (At block (at + 1) level Fresh) level memory error
 flows program block at level memory flow.AskNow = Asks (request_of asks.Now level.priority)
@@ -233,7 +255,7 @@ with_inputs memory image = record memory { inputs = image }
 
 -- the end of OB1 leads to the end of the cycle, with the registers that it began over
 abbrev pub cycle_frame : Frame
-cycle_frame = record { place = AtCycle; kept = clear_registers }
+cycle_frame = record { place = AtCycle; kept = Whole clear_registers }
 
 -- OB1 begins over the input image that was answered
 abbrev pub begins_main : Program → Memory → List ℕ → Move
@@ -312,10 +334,15 @@ answered program memory place _ _ = Again None (Goes memory place)
 abbrev pub at_block_end : Memory → Memory
 at_block_end memory = with_status memory (effect_end memory.registers.status)
 
--- a frame goes on, with the registers that it kept
+-- the registers when what was kept comes back
+abbrev pub restored : Registers → Kept → Registers
+restored registers (Whole kept) = kept
+restored registers (Brackets unit) = record registers { unit = unit }
+
+-- a frame goes on, with what it kept
 abbrev pub resume : Meaning → Frame → Rest → Rest
 resume meaning frame rest state given =
-    meaning frame.place rest (record state { memory = with_registers state.memory frame.kept }) given
+    meaning frame.place rest (record state { memory = with_registers state.memory (restored state.memory.registers frame.kept) }) given
 
 -- a call is the meaning of the called block, and then of what follows it
 abbrev pub moves : Meaning → Rest → State → List Answer → Move → End

@@ -3,6 +3,7 @@ use Rattle.std.specs.Prelude.{ℕ, Bool}
 use Rattle.s7_base.specs.declared.blocks.BlockRef.{BlockRef}
 use Rattle.s7_events.specs.declared.entry.StopCode.{StopCode}
 use Rattle.s7_events.specs.declared.diagnostics.DiagCode.{DiagCode}
+use Rattle.bit_unit.specs.State.{BitState}
 use Rattle.statement_effects.specs.declared.areas.Registers.{Registers}
 
 -- the level that a block runs on: its priority, how many blocks have begun on it and have not ended, the local bytes that
@@ -29,10 +30,16 @@ pub data Place : Type 0 where
   Over : Place
   At : (block : BlockRef) (at : ℕ) (level : Level) (mode : Mode) → Place
 
--- where a CPU goes on when a block ends, and the registers that come back
+-- what comes back when a block ends: after an error OB all registers, and after a block that was called the open groups and
+-- zones, and whether the MCR is active
+pub data Kept : Type 0 where
+  Whole : (registers : Registers) → Kept
+  Brackets : (unit : BitState) → Kept
+
+-- where a CPU goes on when a block ends, and what comes back
 pub record Frame : Type 0 where
   pub place : Place
-  pub kept : Registers
+  pub kept : Kept
 
 -- a diagnostic entry, with its moment in milliseconds
 pub record Note : Type 0 where

@@ -1,5 +1,5 @@
 -- What it means that a machine stands for a program and the answers that it has taken.
-use Rattle.std.specs.Prelude.{◌≡◌, ◌≢◌, ℕ, suc, ◌+◌, ◌-◌, ◌*◌, false, List, [], ◌∷◌, ◌++◌, length, drop, Option, Some, None, IfSome, IsTrue, is_some, if◌then◌else◌, slice_get, flat_map, replicate}
+use Rattle.std.specs.Prelude.{◌≡◌, ◌≢◌, ℕ, suc, ◌+◌, ◌-◌, ◌*◌, ◌<◌, false, List, [], ◌∷◌, ◌++◌, length, drop, Option, Some, None, IfSome, IsTrue, is_some, if◌then◌else◌, slice_get, flat_map, replicate}
 use Rattle.std.specs.Int.{bytes_high_first}
 use Rattle.s7_events.specs.declared.entry.Ask.{Ask}
 use Rattle.s7_events.specs.declared.entry.Ask.TheVariants as asks
@@ -16,7 +16,7 @@ use Rattle.timers.specs.Bytes as timer_form
 use Rattle.counters.specs.Bytes as counter_form
 use Rattle.statement_effects.specs.Areas.{with_registers}
 use Rattle.statement_effects.specs.CounterEffect.{counter_at}
-use Rattle.mc_machine.specs.Meaning.{Cycles, State, End, Waits, Stopped, Rest, Move, Goes, Calls, Reaction, Again, Completes, Turn, Asks, Moves, Halts, Leaves, Ends, stop_request, at_block_end, resume, body, takes, is_dated, stops_cpu, turn_of, never, std}
+use Rattle.mc_machine.specs.Meaning.{Cycles, State, End, Waits, Stopped, Rest, Move, Goes, Calls, Reaction, Again, Completes, Turn, Asks, Moves, Halts, Leaves, Ends, stop_request, at_block_end, restored, resume, body, takes, is_dated, stops_cpu, turn_of, never, std}
 
 -- where a machine is: its program, its place, the frames under it, what the statements see, the statements completed
 -- since the last answer, the moment of that answer, the cycles, and the diagnostic entries that it keeps
@@ -86,18 +86,18 @@ abbrev pub Follows : Turn → Config → Option Request → Config → Type 0
 Follows (Asks request) c asked c' = (asked ≡ Some request) × (c' ≡ c)
 Follows (Moves note move) c asked c' = (asked ≡ None) × IsMoved move c (c.since + 1) c.at note c'
 Follows (Halts note memory code) c asked c' = (asked ≡ Some (stop_request code)) × IsMoved (Goes memory (AtStop code)) c c.since c.at note c'
-Follows Leaves c asked c' = (asked ≡ None) × (frame : Frame) × (c.frames ≡ c'.frames ++ frame ∷ []) × (c' ≡ record { program = c.program; place = frame.place; frames = c'.frames; memory = with_registers (at_block_end c.memory) frame.kept; since = c.since; at = c.at; cycles = c.cycles; diag = c.diag })
+Follows Leaves c asked c' = (asked ≡ None) × (frame : Frame) × (c.frames ≡ c'.frames ++ frame ∷ []) × (c' ≡ record { program = c.program; place = frame.place; frames = c'.frames; memory = with_registers (at_block_end c.memory) (restored (at_block_end c.memory).registers frame.kept); since = c.since; at = c.at; cycles = c.cycles; diag = c.diag })
 Follows Ends c asked c' = ⊥
 
--- how many frames lie under a place: a block has one under it, that of the cycle, and an error OB has that of the block
--- that failed too
+-- how many frames lie under a place: under a block that of the cycle, and that of each block that has begun before it on
+-- its level
 abbrev pub IsHigh : ℕ → Place → Type 0
 IsHigh n AtOutputs = n ≡ 0
 IsHigh n AtInputs = n ≡ 0
 IsHigh n AtCycle = n ≡ 0
 IsHigh n (AtStop code) = Unit {0}
 IsHigh n Over = ⊥
-IsHigh n (At block at level mode) = n ≡ (if level.in_error then 2 else 1)
+IsHigh n (At block at level mode) = (n ≡ level.depth) × (0 < n)
 
 -- each frame has as many under it as its place may have
 abbrev pub AreStacked : ℕ → List Frame → Type 0

@@ -1,12 +1,14 @@
 //! Where the code blocks of a program stand.
-ghost use Rattle.std.specs.Prelude.{◌≡◌, ◌==◌, ◌&&◌, ◌+◌, ◌<◌, ◌^◌, slice_get, length, OnSome};
+ghost use Rattle.std.specs.Prelude.{◌≡◌, ◌==◌, ◌&&◌, ◌+◌, ◌<◌, ◌^◌, slice_get, length, OnSome, IfOk};
+ghost use Rattle.std.specs.Option.{option_copied};
 ghost use Rattle.s7_base.specs.Blocks.{same_kind, code_named};
 ghost use Rattle.mc_machine.specs.Meaning.{statements_of, instruction_at};
-ghost use Rattle.mc_machine.specs.EngineView.{IsCode};
+ghost use Rattle.mc_machine.specs.EngineView.{decoded_codes, decoded_in, IsCode};
 
 use crate::places::BlockSpot;
-use s7_base::{BlockRef, Blocks, CodeBlock, Statement};
-use statement_effects::{Instruction, instruction_of};
+use s7_base::{BlockRef, Blocks, CodeBlock, NoMemory, Statement};
+use statement_effects::{Decoded, DecodedBlock, Instruction, instruction_of};
+use std::alloc::Global;
 
 /// Whether a code block has this name.
 fn is_named(code: &CodeBlock, block: BlockRef) -> bool
@@ -34,8 +36,30 @@ pub fn code_index(program: &Blocks, block: BlockRef) -> usize
     index_in(program.codes(), block)
 }
 
+/// The code blocks of a program, decoded.
+pub fn decoded_codes(alloc: Global, codes: &[CodeBlock]) -> Result<Vec<DecodedBlock>, NoMemory>
+    ensures { IfOk result (λ decoded. decoded.items ≡ decoded_codes codes.now) }
+{
+    let mut decoded = Vec::new(alloc);
+    for code in codes {
+        let block = DecodedBlock::of(alloc, code.statements())?;
+        if decoded.push(block).is_err() {
+            return Err(NoMemory);
+        }
+    }
+    Ok(decoded)
+}
+
+/// The decoded statement at a place of a block. None exactly at the end of the block.
+pub fn decoded_at(decoded: &[DecodedBlock], spot: BlockSpot) -> Option<&Decoded>
+    ensures found { option_copied result ≡ decoded_in decoded.now spot.code spot.at }
+    ensures within { OnSome result (spot.at + 1 < 2 ^ 64) }
+{
+    decoded.get(spot.code)?.get(spot.at)
+}
+
 /// The statement at a place of a block.
-pub fn statement_at(program: &Blocks, spot: BlockSpot) -> Option<Statement>
+fn statement_at(program: &Blocks, spot: BlockSpot) -> Option<Statement>
     requires { IsCode program.now spot.code spot.block }
     ensures found { result ≡ slice_get (statements_of program.now spot.block) spot.at }
     ensures within { OnSome result (spot.at + 1 < 2 ^ 64) }

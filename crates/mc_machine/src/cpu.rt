@@ -7,6 +7,7 @@ ghost use Rattle.s7_base.specs.Blocks.{Program, IsPlayable};
 ghost use Rattle.mc_machine.specs.EngineView.{config_of};
 ghost use Rattle.mc_machine.specs.Stands.{IsIdle, IsRunning, CanAsk, CanTake, IsDated, CanGoOn, IsAsked, HasStopped, WaitsAt, Stands, CpuWaits, CpuStopped, area_bytes, OfRunning, HasSizes, byte_of, counter_of, notes_of};
 
+use crate::codes::decoded_codes;
 use crate::engine::Engine;
 use s7_base::{Answer, Area, Blocks, DiagCode, NoMemory, Request};
 use statement_effects::{ByteArea, Memory};
@@ -50,7 +51,8 @@ impl Machine {
         ensures err { OnErr result (self.new ≡ self.old) }
     {
         let program = blocks.copy(alloc)?;
-        self.engine = Some(Engine::start(program));
+        let decoded = decoded_codes(alloc, program.codes())?;
+        self.engine = Some(Engine::start(program, decoded));
         Ok(())
     }
 

@@ -1,31 +1,36 @@
 //! What a running machine holds: it runs from request to request.
-ghost use Rattle.std.specs.Prelude.{◌≡◌, ◌≢◌, ℕ, ◌+◌, ◌-◌, ◌<◌, ◌≤◌, ◌++◌, ◌∷◌, [], List, length, slice_get, replicate, IsTrue, IfSome, OnSome, ◌^◌, true, false, Option, Some, None};
+ghost use Rattle.std.specs.Prelude.{◌≡◌, ◌≢◌, ℕ, ◌+◌, ◌-◌, ◌<◌, ◌≤◌, ◌++◌, ◌∷◌, [], List, length, slice_get, replicate, IsTrue, IfSome, OnSome, ◌^◌, true, false, Option, Some, None, Ok};
 ghost use Rattle.s7_base.specs.Blocks.{Program};
 ghost use Rattle.s7_events.specs.declared.entry.Answer.{Answer};
 ghost use Rattle.s7_base.specs.declared.blocks.BlockRef.{BlockRef};
-ghost use Rattle.mc_machine.specs.Meaning.{error_registers, fails, turn_of, flows, jump_among, cycle_length, cycles_after, answered, takes, stops_cpu, begins_main, lost_note, again_mode, again, resumed, timed_at, Leaves, Waits, std, request_of, stop_request};
+ghost use Rattle.mc_machine.specs.Meaning.{error_registers, fails, begun, calls, turn_of, flows, jump_among, cycle_length, cycles_after, answered, takes, stops_cpu, begins_main, lost_note, again_mode, again, resumed, timed_at, Leaves, Waits, std, request_of, stop_request};
 ghost use Rattle.mc_machine.specs.Stands.{Running, state_of, newest, with_newest, StandsFor, IsMoved, IsTurned, halts_with, Reacts, Follows, register_head, register_bytes, IsHigh, AreStacked, IsSound, IsValid, IsAskedAt, AsksAt, Keeps, IsTaken, IsDated, IsAsked, GoesOn};
 ghost use Rattle.mc_machine.specs.Places.{AtInputs, Over, At, Fresh};
-ghost use Rattle.mc_machine.specs.EngineView.{level_in, mode_of, place_of, frame_of, config_of, running_of, IsCode, IsIndexed, AreIndexed, IsStored};
+ghost use Rattle.mc_machine.specs.EngineView.{level_in, mode_of, place_of, frame_of, config_of, running_of, decoded_codes, gone_to, IsCode, IsIndexed, AreIndexed, IsStored};
 ghost use Rattle.s7_events.specs.declared.entry.Ask.{Ask};
 
-use crate::codes::{code_index, end_of, instruction_in, statement_at};
-use crate::levels::{error_level, error_ob, error_registers, main_level};
-use crate::places::{BlockSpot, Frame, Level, Mode, Note, Spot};
+use crate::codes::{code_index, decoded_at, end_of, instruction_in};
+use crate::levels::{
+    call_registers, entered, error_level, error_ob, error_registers, local_bytes, main_level,
+    restored,
+};
+use crate::places::{BlockSpot, Frame, Level, Mode, Note, Returns, Spot};
 use arrayvec::ArrayVec;
 use s7_base::{Answer, Ask, BlockRef, Blocks, CodeKind, DiagCode, Loss, Request, Side, StopCode};
-use statement_effects::{Flow, Instruction, Memory, Registers};
+use statement_effects::{DecodedBlock, Flow, Instruction, Memory, Registers};
 
 /// How many diagnostic entries are kept.
 const KEPT_NOTES: usize = 120;
 
-/// How many frames there are: that of the cycle, under OB1, and that of OB1 under its error OB.
-const FRAMES: usize = 2;
+/// How many frames there are: that of the cycle, and those of the blocks under the 24th of a level.
+const FRAMES: usize = 24;
 
 /// The place of a machine, what its statements see, and the frames under it.
 #[derive(Debug, Drop)]
 pub struct Engine {
     program: Blocks,
+    /// The code blocks of the program, decoded.
+    decoded: Vec<DecodedBlock>,
     memory: Memory,
     since: u16,
     at: u64,
@@ -40,6 +45,9 @@ pub struct Engine {
     diag: ArrayVec<Note, KEPT_NOTES>,
     waits: Option<Request>,
 }
+
+/// The error of a block that is called and is not loaded.
+const NOT_LOADED: u8 = 7;
 
 /// The priority of a request to stop.
 const STOP_PRIORITY: u8 = 30;
@@ -138,7 +146,8 @@ fn again_mode(ask: &Ask, mode: Mode) -> Mode
 
 impl Engine {
     /// The CPU at the start of its first cycle.
-    pub fn start(program: Blocks) -> Engine
+    pub fn start(program: Blocks, decoded: Vec<DecodedBlock>) -> Engine
+        requires decoded { decoded.items ≡ decoded_codes program.codes }
         ensures valid { IsValid (running_of result) }
         ensures stored { IsStored result }
         ensures going { (config_of result).place ≢ Over }
@@ -151,6 +160,7 @@ impl Engine {
         });
         Engine {
             program,
+            decoded,
             memory: Memory::start(),
             since: 0,
             at: 0,
@@ -427,6 +437,7 @@ impl Engine {
         let frame = Frame {
             spot: Spot::AtCycle,
             kept: Registers::clear(),
+            returns: Returns::Whole,
         };
         self.begin(ob(1), level, frame);
     }
@@ -476,15 +487,29 @@ impl Engine {
         ensures sound { IsSound (config_of self.new) }
         ensures stored { IsStored self.new }
     {
-        let Some(statement) = statement_at(&self.program, spot) else {
+        let Some(statement) = decoded_at(&self.decoded, spot) else {
             self.leave();
             return None;
         };
         if self.since >= 256 {
             return Some(block_request(Ask::Tick, spot.level));
         }
-        let flow = self.memory.perform(&statement);
+        let flow = self.memory.perform(statement);
         self.follow(spot, flow)
+    }
+
+    /// The block goes to another of its statements.
+    fn go_to(&mut self, next: usize)
+        requires sound { IsSound (config_of self.old) }
+        requires stored { IsStored self.old }
+        ensures moved { config_of self.new ≡ record (config_of self.old) { place = gone_to (config_of self.old).place next } }
+        ensures sound { IsSound (config_of self.new) }
+        ensures stored { IsStored self.new }
+        ensures waits { self.new.waits ≡ self.old.waits }
+    {
+        if let Spot::At(spot) = &mut self.spot {
+            spot.at = next;
+        }
     }
 
     /// Goes where a statement leads.
@@ -504,10 +529,11 @@ impl Engine {
             Flow::Jump(target) => target as usize,
             Flow::Among { number, target } => jump_among(spot.at, number, target),
             Flow::End => end_of(&self.program, spot),
+            Flow::Call(callee) => return self.call(callee, spot),
             Flow::Fail(error) => return self.fail_statement(error, spot),
             Flow::AskNow => return Some(block_request(Ask::Now, spot.level)),
         };
-        self.spot = at_statement(spot, next);
+        self.go_to(next);
         self.since += 1;
         None
     }
@@ -529,11 +555,13 @@ impl Engine {
     {
         match error_level(&self.program, spot.level, error) {
             Ok(level) => {
+                let registers = self.memory.registers();
                 let frame = Frame {
                     spot: at_statement(spot, spot.at + 1),
-                    kept: self.memory.registers(),
+                    kept: registers,
+                    returns: Returns::Whole,
                 };
-                self.memory.set_registers(error_registers(&frame.kept));
+                self.memory.set_registers(error_registers(&registers));
                 self.begin(ob(error_ob(error)), level, frame);
                 self.note(DiagCode::Error(error));
                 None
@@ -568,6 +596,55 @@ impl Engine {
         }
     }
 
+    /// A block is called. The statement is completed where it begins, or where it is not loaded and the error OB begins.
+    fn call(&mut self, callee: BlockRef, spot: BlockSpot) -> Option<Request>
+        requires sound { IsSound (config_of self.old) }
+        requires stored { IsStored self.old }
+        requires here { IsHigh (length (config_of self.old).frames) (At spot.block spot.at (level_in spot.level) Fresh) }
+        requires code { IsCode self.old.program spot.code spot.block }
+        requires before { self.old.since < 256 }
+        requires within { spot.at + 1 < 2 ^ 64 }
+        ensures turned { Follows (calls self.old.program (At spot.block (spot.at + 1) (level_in spot.level) Fresh) (level_in spot.level) self.old.memory callee) (config_of self.old) result (config_of self.new) }
+        ensures sound { IsSound (config_of self.new) }
+        ensures stored { IsStored self.new }
+    {
+        let Some(code) = self.program.code(callee.kind, callee.number) else {
+            return self.fail_statement(NOT_LOADED, spot);
+        };
+        match entered(spot.level, local_bytes(code)) {
+            Ok(level) => self.begin_called(callee, level, spot),
+            Err(code) => {
+                self.spot = Spot::AtStop(code);
+                Some(stop_request(code))
+            }
+        }
+    }
+
+    /// A block that is called begins on its level.
+    fn begin_called(&mut self, callee: BlockRef, level: Level, spot: BlockSpot) -> Option<Request>
+        requires sound { IsSound (config_of self.old) }
+        requires stored { IsStored self.old }
+        requires here { IsHigh (length (config_of self.old).frames) (At spot.block spot.at (level_in spot.level) Fresh) }
+        requires code { IsCode self.old.program spot.code spot.block }
+        requires deeper { (spot.level.depth < 24) × (level.depth ≡ spot.level.depth + 1) }
+        requires before { self.old.since < 256 }
+        requires within { spot.at + 1 < 2 ^ 64 }
+        ensures turned { Follows (begun (At spot.block (spot.at + 1) (level_in spot.level) Fresh) self.old.memory callee (Ok (level_in level))) (config_of self.old) result (config_of self.new) }
+        ensures sound { IsSound (config_of self.new) }
+        ensures stored { IsStored self.new }
+    {
+        let registers = self.memory.registers();
+        let frame = Frame {
+            spot: at_statement(spot, spot.at + 1),
+            kept: registers,
+            returns: Returns::Brackets,
+        };
+        self.memory.set_registers(call_registers(&registers));
+        self.begin(callee, level, frame);
+        self.since += 1;
+        None
+    }
+
     /// A statement that asked is completed by its answer, and fails.
     #[tactic(auto, using(crate::proofs::Sound::turned_since))]
     fn fail_answered(&mut self, error: u8, spot: BlockSpot)
@@ -592,9 +669,10 @@ impl Engine {
         requires stacked { AreStacked 0 (config_of self.old).frames }
         requires under { IsHigh (length (config_of self.old).frames) (frame_of frame).place }
         requires high { IsHigh (length (config_of self.old).frames + 1) (At block 0 (level_in level) Fresh) }
-        requires room { length (config_of self.old).frames < 2 }
+        requires room { length (config_of self.old).frames < 24 }
         requires frames { AreIndexed self.old.program self.old.frames.items }
         requires indexed { IsIndexed self.old.program frame.spot }
+        requires decoded { self.old.decoded.items ≡ decoded_codes self.old.program.codes }
         ensures moved { config_of self.new ≡ record (config_of self.old) { place = At block 0 (level_in level) Fresh; frames = (config_of self.old).frames ++ frame_of frame ∷ [] } }
         ensures sound { IsSound (config_of self.new) }
         ensures stored { IsStored self.new }
@@ -626,8 +704,7 @@ impl Engine {
         };
         let mut registers = self.memory.registers();
         registers.status.after_block();
-        self.memory.set_registers(registers);
+        self.memory.set_registers(restored(&registers, &frame));
         self.spot = frame.spot;
-        self.memory.set_registers(frame.kept);
     }
 }

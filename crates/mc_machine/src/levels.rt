@@ -1,9 +1,10 @@
 //! The level on which a block begins, and what an error leads to.
-ghost use Rattle.std.specs.Prelude.{◌≡◌, true, false, Ok, Err, IfOk, IfErr, OnOk};
-ghost use Rattle.mc_machine.specs.Meaning.{local_bytes_of, level_of, entered, error_ob, no_error_ob, error_level, error_registers};
-ghost use Rattle.mc_machine.specs.EngineView.{level_in};
+ghost use Rattle.std.specs.Prelude.{◌≡◌, ◌<◌, ◌+◌, Ok, Err, IfOk, IfErr};
+ghost use Rattle.mc_machine.specs.Meaning.{local_bytes_of, level_of, entered, error_ob, no_error_ob, error_level, error_registers, call_registers, restored};
+ghost use Rattle.mc_machine.specs.EngineView.{level_in, kept_of};
 
-use crate::places::Level;
+use crate::places::{Frame, Level, Returns};
+use bit_unit::BitUnit;
 use s7_base::{Blocks, CodeBlock, CodeKind, StopCode};
 use statement_effects::Registers;
 
@@ -14,7 +15,7 @@ const DEPTH: u8 = 24;
 const LOCAL_BYTES: u32 = 256;
 
 /// The local bytes of a code block.
-fn local_bytes(code: &CodeBlock) -> u16
+pub fn local_bytes(code: &CodeBlock) -> u16
     ensures { result ≡ local_bytes_of code.now }
 {
     let temp = code.temp();
@@ -26,7 +27,8 @@ fn local_bytes(code: &CodeBlock) -> u16
 
 /// The level on which OB1 begins.
 pub fn main_level(program: &Blocks) -> Level
-    ensures { level_in result ≡ level_of program.now 1 }
+    ensures level { level_in result ≡ level_of program.now 1 }
+    ensures depth { result.depth ≡ 1 }
 {
     let local_bytes = match program.code(CodeKind::Ob, 1) {
         Some(code) => local_bytes(code),
@@ -41,10 +43,10 @@ pub fn main_level(program: &Blocks) -> Level
 }
 
 /// The level where a block of so many local bytes begins on it.
-fn entered(level: Level, bytes: u16) -> Result<Level, StopCode>
+pub fn entered(level: Level, bytes: u16) -> Result<Level, StopCode>
     ensures ok { IfOk result (λ deeper. entered (level_in level) bytes ≡ Ok (level_in deeper)) }
     ensures err { IfErr result (λ code. entered (level_in level) bytes ≡ Err code) }
-    ensures same { IfOk result (λ deeper. deeper.in_error ≡ level.in_error) }
+    ensures deeper { IfOk result (λ deeper. (level.depth < 24) × (deeper.depth ≡ level.depth + 1)) }
 {
     if level.depth >= DEPTH {
         return Err(StopCode::Depth);
@@ -83,8 +85,7 @@ fn no_error_ob(error: u8) -> StopCode
 pub fn error_level(program: &Blocks, level: Level, error: u8) -> Result<Level, StopCode>
     ensures ok { IfOk result (λ inside. error_level program.now (level_in level) error ≡ Ok (level_in inside)) }
     ensures err { IfErr result (λ code. error_level program.now (level_in level) error ≡ Err code) }
-    ensures outside { OnOk result (level.in_error ≡ false) }
-    ensures inside { IfOk result (λ inside. inside.in_error ≡ true) }
+    ensures deeper { IfOk result (λ inside. (level.depth < 24) × (inside.depth ≡ level.depth + 1)) }
 {
     if level.in_error {
         return Err(StopCode::InError);
@@ -108,4 +109,27 @@ pub fn error_registers(registers: &Registers) -> Registers
     let mut inside = Registers::clear();
     inside.accus = registers.accus;
     inside
+}
+
+/// The registers with which a block that is called begins.
+pub fn call_registers(registers: &Registers) -> Registers
+    ensures { result ≡ call_registers registers.now }
+{
+    let mut inside = *registers;
+    inside.status.after_block();
+    inside.unit = BitUnit::new();
+    inside
+}
+
+/// The registers when a frame goes on, with what comes back of those that it kept.
+pub fn restored(registers: &Registers, frame: &Frame) -> Registers
+    ensures { result ≡ restored registers.now (kept_of frame.now.returns frame.now.kept) }
+{
+    match frame.returns {
+        Returns::Whole => frame.kept,
+        Returns::Brackets => Registers {
+            unit: frame.kept.unit,
+            ..*registers
+        },
+    }
 }

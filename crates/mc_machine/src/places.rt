@@ -51,11 +51,22 @@ pub enum Spot {
     At(BlockSpot),
 }
 
-/// Where a machine goes on when a block ends, and the registers that come back.
+/// What comes back, when a block ends, of the registers that were kept when it began.
+#[derive(Clone, Copy, Debug, Default)]
+pub enum Returns {
+    /// After an error OB: all of them.
+    #[default]
+    Whole,
+    /// After a block that was called: the open groups and zones, and whether the MCR is active.
+    Brackets,
+}
+
+/// Where a machine goes on when a block ends, the registers that were kept, and what of them comes back.
 #[derive(Clone, Copy, Debug, Default)]
 pub struct Frame {
     pub spot: Spot,
     pub kept: Registers,
+    pub returns: Returns,
 }
 
 /// A diagnostic entry, with its moment in milliseconds.

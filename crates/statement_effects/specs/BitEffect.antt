@@ -1,5 +1,10 @@
 -- What the bit statements do: those on a bit of an area, those on the status word alone, brackets and zones.
 use Rattle.std.specs.Prelude.{ℕ, Bool, true, false, not, ◌&&◌, if◌then◌else◌, unwrap_or, Result, Ok, Err, slice_get}
+use Rattle.instruction_set.specs.declared.operation.BitWrite.TheVariants as writes
+use Rattle.instruction_set.specs.declared.operation.Edge.{Edge}
+use Rattle.instruction_set.specs.declared.operation.Edge.TheVariants as edges
+use Rattle.instruction_set.specs.declared.operation.RloOperation.TheVariants as rlo
+use Rattle.instruction_set.specs.declared.operation.MasterControl.TheVariants as mcr
 use Rattle.status_word.specs.declared.status.StatusWord.{StatusWord}
 use Rattle.status_word.specs.BitRows.{checked, or_row, write_row, not_row, set_row, clear_row, save_row, edged, edge_bit}
 use Rattle.status_word.specs.JumpRows.{operands}
@@ -21,18 +26,22 @@ use Rattle.statement_effects.specs.Areas.{bit_at, with_bit_at, with_status, is_o
 abbrev pub with_bit_where : Bool → Memory → BitPlace → Bool → Memory
 with_bit_where condition memory place value = if condition then with_bit_at memory place value else memory
 
+abbrev pub is_rising : Edge → Bool
+is_rising edges.Rising = true
+is_rising edges.Falling = false
+
 -- a statement on the bit at a place: in a zone that is off `=` writes 0, and S and R write nothing
 abbrev pub effect_bit : BitInstruction → BitPlace → Memory → Memory
 effect_bit (bits.Check how) place memory =
     with_status memory (checked how (bit_at memory place) memory.registers.status)
-effect_bit bits.Assign place memory =
+effect_bit (bits.Write writes.Assign) place memory =
     with_status (with_bit_at memory place (memory.registers.status.rlo && not (is_off memory))) (write_row memory.registers.status)
-effect_bit bits.Set place memory =
+effect_bit (bits.Write writes.Set) place memory =
     with_status (with_bit_where (memory.registers.status.rlo && not (is_off memory)) memory place true) (write_row memory.registers.status)
-effect_bit bits.Reset place memory =
+effect_bit (bits.Write writes.Reset) place memory =
     with_status (with_bit_where (memory.registers.status.rlo && not (is_off memory)) memory place false) (write_row memory.registers.status)
-effect_bit (bits.Edge rising) place memory =
-    with_status (with_bit_at memory place (edge_bit memory.registers.status)) (edged rising (bit_at memory place) memory.registers.status)
+effect_bit (bits.Edge edge) place memory =
+    with_status (with_bit_at memory place (edge_bit memory.registers.status)) (edged (is_rising edge) (bit_at memory place) memory.registers.status)
 
 -- the status operand of a number
 abbrev pub status_operand : StatusWord → ℕ → Bool
@@ -42,10 +51,10 @@ status_operand s number = unwrap_or (slice_get (operands s) number) false
 abbrev pub effect_status : StatusInstruction → StatusWord → StatusWord
 effect_status (status.Check how number) s = checked how (status_operand s number) s
 effect_status status.OrAlone s = or_row s
-effect_status status.Invert s = not_row s
-effect_status status.SetRlo s = set_row s
-effect_status status.ClearRlo s = clear_row s
-effect_status status.SaveRlo s = save_row s
+effect_status (status.Rlo rlo.NegateRlo) s = not_row s
+effect_status (status.Rlo rlo.SetRlo) s = set_row s
+effect_status (status.Rlo rlo.ClearRlo) s = clear_row s
+effect_status (status.Rlo rlo.SaveRlo) s = save_row s
 
 -- the error of a bracket that is refused
 abbrev pub error_of : BitFault → ℕ
@@ -63,6 +72,7 @@ stepped (Err fault) registers = Err (error_of fault)
 abbrev pub effect_group : GroupInstruction → Registers → Result Registers ℕ
 effect_group (groups.Open how) r = stepped (group_opened how r.unit r.status) r
 effect_group groups.Close r = stepped (group_closed r.unit r.status) r
-effect_group groups.OpenZone r = stepped (zone_opened r.unit r.status) r
-effect_group groups.CloseZone r = stepped (zone_closed r.unit r.status) r
-effect_group (groups.Activate on) r = Ok (record r { unit = record r.unit { active = on } })
+effect_group (groups.MasterControl mcr.OpenZone) r = stepped (zone_opened r.unit r.status) r
+effect_group (groups.MasterControl mcr.CloseZone) r = stepped (zone_closed r.unit r.status) r
+effect_group (groups.MasterControl mcr.Activate) r = Ok (record r { unit = record r.unit { active = true } })
+effect_group (groups.MasterControl mcr.Deactivate) r = Ok (record r { unit = record r.unit { active = false } })

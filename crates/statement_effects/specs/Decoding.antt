@@ -4,6 +4,8 @@ use Rattle.s7_base.specs.declared.statement.Statement.{Statement}
 use Rattle.instruction_set.specs.declared.operands.OperandArea.TheVariants as areas
 use Rattle.s7_base.specs.Operands.{is_in}
 use Rattle.s7_events.specs.Optional.{◌>>=◌}
+use Rattle.s7_base.specs.declared.blocks.CodeKind.{CodeKind}
+use Rattle.s7_base.specs.declared.blocks.CodeKind.TheVariants.{Fb, Fc}
 use Rattle.statement_effects.specs.declared.instruction.ByteArea.{ByteArea}
 use Rattle.statement_effects.specs.declared.instruction.ByteArea.TheVariants.{I, Q, M}
 use Rattle.statement_effects.specs.declared.instruction.Width.{Width}
@@ -43,6 +45,10 @@ byte_operand area s = if nat_le s.bit 7 then bit_operand area s else value_opera
 abbrev pub up_to : ℕ → (ℕ → Operand) → Statement → Option Operand
 up_to most operand s = if nat_le s.value most then Some (operand s.value) else None
 
+-- the block of a kind that is called
+abbrev pub block_operand : CodeKind → Statement → Option Operand
+block_operand kind s = up_to 255 (λ number. operands.Block (record { kind = kind; number = number })) s
+
 -- an operand that is none of the areas of bytes
 abbrev pub other_operand : Statement → Option Operand
 other_operand s =
@@ -54,6 +60,8 @@ other_operand s =
     else if is_in areas.Target s then Some (operands.Target s.value)
     else if is_in areas.Status s then up_to 9 operands.Status s
     else if is_in areas.StatusWord s then Some operands.StatusWord
+    else if is_in areas.Function s then block_operand Fc s
+    else if is_in areas.FunctionBlock s then block_operand Fb s
     else None
 
 -- the operand, if it is one that is supported

@@ -3,13 +3,11 @@ use Rattle.std.specs.Prelude.{ℕ, ◌%◌, true, false, Option, Some, None}
 use Rattle.std.specs.Int.{w16, w32, cast_signed}
 use Rattle.std.specs.Option.{option_map, option_or}
 use Rattle.s7_base.specs.declared.statement.Statement.{Statement}
+use Rattle.s7_base.specs.declared.blocks.BlockRef.{BlockRef}
 use Rattle.instruction_set.specs.declared.table.InstructionRow.{InstructionRow}
 use Rattle.instruction_set.specs.declared.operation.Operation.{Operation}
 use Rattle.instruction_set.specs.declared.operation.Operation.TheVariants as operations
 use Rattle.instruction_set.specs.declared.operation.BitWrite.TheVariants as writes
-use Rattle.instruction_set.specs.declared.operation.RloOperation.TheVariants as rlo
-use Rattle.instruction_set.specs.declared.operation.Edge.TheVariants as edges
-use Rattle.instruction_set.specs.declared.operation.MasterControl.TheVariants as mcr
 use Rattle.instruction_set.specs.declared.operation.BlockOperation.TheVariants as blocks
 use Rattle.instruction_set.specs.declared.operation.Check.{Check}
 use Rattle.instruction_set.specs.declared.operation.Word.{Word}
@@ -45,11 +43,8 @@ use Rattle.statement_effects.specs.Decoding.{operand_of}
 -- with a bit
 abbrev pub bit_of : Operation → Option BitInstruction
 bit_of (operations.Check how) = Some (bits.Check how)
-bit_of (operations.Write writes.Assign) = Some bits.Assign
-bit_of (operations.Write writes.Set) = Some bits.Set
-bit_of (operations.Write writes.Reset) = Some bits.Reset
-bit_of (operations.Edge edges.Rising) = Some (bits.Edge true)
-bit_of (operations.Edge edges.Falling) = Some (bits.Edge false)
+bit_of (operations.Write how) = Some (bits.Write how)
+bit_of (operations.Edge edge) = Some (bits.Edge edge)
 bit_of _ = None
 
 -- with a status operand
@@ -124,19 +119,22 @@ with_target operations.JumpList = Some (λ target. groups.Jump (jumps.List targe
 with_target operations.Loop = Some (λ target. groups.Jump (jumps.Loop target))
 with_target _ = None
 
+-- with a block that is called; an FB with its data block is not called yet
+abbrev pub with_block : Operation → Option (BlockRef → Instruction)
+with_block (operations.Block blocks.CallFunction) = Some groups.Call
+with_block (operations.Block blocks.UnconditionalCallFunction) = Some groups.Call
+with_block (operations.Block blocks.UnconditionalCallFunctionBlock) = Some groups.Call
+with_block (operations.Block blocks.ConditionalCallFunction) = Some groups.CallWhenSet
+with_block (operations.Block blocks.ConditionalCallFunctionBlock) = Some groups.CallWhenSet
+with_block _ = None
+
 -- alone; of the statements on blocks the ends only
 abbrev pub alone : Operation → Option Instruction
 alone operations.AndBeforeOr = Some (groups.Status status.OrAlone)
 alone (operations.Open how) = Some (groups.Group (brackets.Open how))
 alone operations.Close = Some (groups.Group brackets.Close)
-alone (operations.Rlo rlo.NegateRlo) = Some (groups.Status status.Invert)
-alone (operations.Rlo rlo.SetRlo) = Some (groups.Status status.SetRlo)
-alone (operations.Rlo rlo.ClearRlo) = Some (groups.Status status.ClearRlo)
-alone (operations.Rlo rlo.SaveRlo) = Some (groups.Status status.SaveRlo)
-alone (operations.MasterControl mcr.Activate) = Some (groups.Group (brackets.Activate true))
-alone (operations.MasterControl mcr.Deactivate) = Some (groups.Group (brackets.Activate false))
-alone (operations.MasterControl mcr.OpenZone) = Some (groups.Group brackets.OpenZone)
-alone (operations.MasterControl mcr.CloseZone) = Some (groups.Group brackets.CloseZone)
+alone (operations.Rlo op) = Some (groups.Status (status.Rlo op))
+alone (operations.MasterControl op) = Some (groups.Group (brackets.MasterControl op))
 alone (operations.Move op) = Some (groups.Accu (accus.Move op))
 alone (operations.Number op) = Some (groups.Number (numbers.Work op))
 alone (operations.FromBcd size) = Some (groups.Number (numbers.FromBcd (is_wide size)))
@@ -162,6 +160,7 @@ means op (operands.DoubleWord value) = option_map (λ instruction. instruction v
 means op (operands.Target target) = option_map (λ instruction. instruction target) (with_target op)
 means op (operands.Status n) = option_map (λ how. groups.Status (status.Check how n)) (status_check_of op)
 means op operands.StatusWord = status_word_of op
+means op (operands.Block callee) = option_map (λ instruction. instruction callee) (with_block op)
 
 abbrev pub read_row : Option InstructionRow → Statement → Option Instruction
 read_row None s = None

@@ -3,13 +3,15 @@ ghost use Rattle.std.specs.Prelude.{◌≡◌, ◌<◌, ◌≤◌, not, ◌&&◌
 ghost use Rattle.statement_effects.specs.Areas.{bit_of, with_bit, bit_at, with_bit_at, is_off};
 ghost use Rattle.statement_effects.specs.Placed.{IsBitPlaced, IsBitOperand, HasNumber};
 ghost use Rattle.statement_effects.specs.Resolving.{resolve_bit, at_bit};
-ghost use Rattle.statement_effects.specs.BitEffect.{with_bit_where, effect_bit, status_operand, effect_status, error_of, effect_group};
+ghost use Rattle.statement_effects.specs.BitEffect.{with_bit_where, is_rising, effect_bit, status_operand, effect_status, error_of, effect_group};
+ghost use Rattle.statement_effects.specs.declared.instruction.BitInstruction.TheVariants as bits;
 
 use crate::instruction::{
     BitInstruction, BitOperand, BitPlace, ByteArea, GroupInstruction, StatusInstruction,
 };
 use crate::{Memory, Registers};
 use bit_unit::BitFault;
+use instruction_set::{BitWrite, Edge, MasterControl, RloOperation};
 use status_word::StatusWord;
 
 fn bit_from(byte: u8, bit: u8) -> bool
@@ -29,6 +31,12 @@ fn byte_with(byte: u8, bit: u8, value: bool) -> u8
     } else {
         byte & (255 - (1 << bit))
     }
+}
+
+fn is_rising(edge: Edge) -> bool
+    ensures { result ≡ is_rising edge }
+{
+    edge == Edge::Rising
 }
 
 impl Memory {
@@ -75,6 +83,22 @@ impl Memory {
         }
     }
 
+    /// `=`, `S` and `R` of the bit at a place.
+    fn execute_write(&mut self, how: BitWrite, place: BitPlace)
+        requires { IsBitPlaced place }
+        ensures { self.new ≡ effect_bit (bits.Write how) place self.old }
+    {
+        match how {
+            BitWrite::Assign => {
+                let value = self.registers.status.rlo && !self.is_off();
+                self.write_bit(place, value);
+            }
+            BitWrite::Set => self.write_bit_set(place, true),
+            BitWrite::Reset => self.write_bit_set(place, false),
+        }
+        self.registers.status.after_write();
+    }
+
     /// A statement on the bit at a place.
     fn execute_at_bit(&mut self, i: BitInstruction, place: BitPlace)
         requires { IsBitPlaced place }
@@ -85,22 +109,10 @@ impl Memory {
                 let operand = self.read_bit(place);
                 self.registers.status.check(how, operand);
             }
-            BitInstruction::Assign => {
-                let value = self.registers.status.rlo && !self.is_off();
-                self.write_bit(place, value);
-                self.registers.status.after_write();
-            }
-            BitInstruction::Set => {
-                self.write_bit_set(place, true);
-                self.registers.status.after_write();
-            }
-            BitInstruction::Reset => {
-                self.write_bit_set(place, false);
-                self.registers.status.after_write();
-            }
-            BitInstruction::Edge(rising) => {
+            BitInstruction::Write(how) => self.execute_write(how, place),
+            BitInstruction::Edge(edge) => {
                 let old = self.read_bit(place);
-                let now = self.registers.status.edge(rising, old);
+                let now = self.registers.status.edge(is_rising(edge), old);
                 self.write_bit(place, now);
             }
         }
@@ -141,10 +153,10 @@ pub(crate) fn execute_status(status: &mut StatusWord, i: StatusInstruction)
             status.check(how, operand);
         }
         StatusInstruction::OrAlone => status.or_alone(),
-        StatusInstruction::Invert => status.invert(),
-        StatusInstruction::SetRlo => status.set(),
-        StatusInstruction::ClearRlo => status.clear(),
-        StatusInstruction::SaveRlo => status.save(),
+        StatusInstruction::Rlo(RloOperation::NegateRlo) => status.invert(),
+        StatusInstruction::Rlo(RloOperation::SetRlo) => status.set(),
+        StatusInstruction::Rlo(RloOperation::ClearRlo) => status.clear(),
+        StatusInstruction::Rlo(RloOperation::SaveRlo) => status.save(),
     }
 }
 
@@ -173,10 +185,18 @@ impl Registers {
         let done = match i {
             GroupInstruction::Open(how) => self.unit.open_group(&mut self.status, how),
             GroupInstruction::Close => self.unit.close_group(&mut self.status),
-            GroupInstruction::OpenZone => self.unit.open_mcr(&mut self.status),
-            GroupInstruction::CloseZone => self.unit.close_mcr(&mut self.status),
-            GroupInstruction::Activate(on) => {
-                self.unit.mcr_area(on);
+            GroupInstruction::MasterControl(MasterControl::OpenZone) => {
+                self.unit.open_mcr(&mut self.status)
+            }
+            GroupInstruction::MasterControl(MasterControl::CloseZone) => {
+                self.unit.close_mcr(&mut self.status)
+            }
+            GroupInstruction::MasterControl(MasterControl::Activate) => {
+                self.unit.mcr_area(true);
+                Ok(())
+            }
+            GroupInstruction::MasterControl(MasterControl::Deactivate) => {
+                self.unit.mcr_area(false);
                 Ok(())
             }
         };

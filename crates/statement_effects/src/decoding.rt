@@ -2,7 +2,7 @@
 ghost use Rattle.std.specs.Prelude.{◌≡◌, ◌≤◌, IfSome};
 ghost use Rattle.s7_base.specs.Operands.{is_in};
 ghost use Rattle.statement_effects.specs.Areas.{size_of, bytes_in};
-ghost use Rattle.statement_effects.specs.Decoding.{width_of, bit_operand, value_operand, byte_operand, up_to, other_operand, operand_of};
+ghost use Rattle.statement_effects.specs.Decoding.{width_of, bit_operand, value_operand, byte_operand, up_to, block_operand, other_operand, operand_of};
 ghost use Rattle.statement_effects.specs.Placed.{IsOperand};
 ghost use Rattle.statement_effects.specs.declared.instruction.Operand.TheVariants as operands;
 
@@ -10,7 +10,7 @@ use crate::instruction::{
     BitOperand, BitPlace, ByteArea, Operand, ValueOperand, ValuePlace, Width,
 };
 use instruction_set::OperandArea;
-use s7_base::Statement;
+use s7_base::{BlockRef, CodeKind, Statement};
 
 impl ByteArea {
     /// How many bytes it has.
@@ -130,6 +130,15 @@ fn status_operand(s: &Statement) -> Option<Operand>
     Some(Operand::Status(s.value as u8))
 }
 
+/// The block of a kind that is called.
+fn block_operand(kind: CodeKind, s: &Statement) -> Option<Operand>
+    ensures operand { result ≡ block_operand kind s.now }
+    ensures placed { IfSome result IsOperand }
+{
+    let number = u8::try_from(s.value).ok()?;
+    Some(Operand::Block(BlockRef { kind, number }))
+}
+
 /// An operand that is none of the areas of bytes.
 fn other_operand(s: &Statement) -> Option<Operand>
     ensures operand { result ≡ other_operand s.now }
@@ -151,6 +160,10 @@ fn other_operand(s: &Statement) -> Option<Operand>
         status_operand(s)
     } else if is_in(s, OperandArea::StatusWord) {
         Some(Operand::StatusWord)
+    } else if is_in(s, OperandArea::Function) {
+        block_operand(CodeKind::Fc, s)
+    } else if is_in(s, OperandArea::FunctionBlock) {
+        block_operand(CodeKind::Fb, s)
     } else {
         None
     }

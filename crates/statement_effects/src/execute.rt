@@ -1,14 +1,13 @@
 //! What a statement does.
 ghost use Rattle.std.specs.Prelude.{◌≡◌, OnOk, IfErr};
 ghost use Rattle.statement_effects.specs.Placed.{HasOperand};
-ghost use Rattle.statement_effects.specs.Effect.{effect, effect_of};
+ghost use Rattle.statement_effects.specs.Effect.{effect, effect_if};
 
 use crate::Memory;
 use crate::bits::execute_status;
+use crate::decoded::Decoded;
 use crate::instruction::{Flow, Instruction};
 use crate::moves::execute_accu;
-use crate::reading::instruction_of;
-use s7_base::Statement;
 
 /// The next statement follows, or the error of one that failed.
 fn flow_of(done: Result<(), u8>) -> Flow
@@ -41,6 +40,10 @@ impl Memory {
             Instruction::Timer(op, n) => self.execute_timer(op, n),
             Instruction::Timed(_, _) => return Flow::AskNow,
             Instruction::Counter(op, n) => return flow_of(self.execute_counter(op, n)),
+            Instruction::Call(callee) => return Flow::Call(callee),
+            Instruction::CallWhenSet(callee) => {
+                return self.registers.execute_call_when_set(callee);
+            }
             Instruction::End => {
                 self.registers.status.after_block();
                 return Flow::End;
@@ -51,12 +54,12 @@ impl Memory {
         Flow::Next
     }
 
-    /// Does what a stored statement does, and returns where it leads. A statement that needs the moment changes nothing yet.
-    pub fn perform(&mut self, statement: &Statement) -> Flow
-        ensures effect { effect_of statement.now self.old ≡ (self.new, result) }
+    /// Does what a decoded statement does, and returns where it leads. A statement that needs the moment changes nothing yet.
+    pub fn perform(&mut self, statement: &Decoded) -> Flow
+        ensures effect { effect_if statement.now self.old ≡ (self.new, result) }
         ensures asks { result ≡ Flow.AskNow → self.new ≡ self.old }
     {
-        match instruction_of(statement) {
+        match statement.instruction() {
             Some(i) => self.execute(i),
             None => Flow::Next,
         }

@@ -1,6 +1,8 @@
 //! What a statement means: instructions, by groups.
 
 use accumulators::{Move, Num, Shift, Word};
+use instruction_set::{BitWrite, Edge, MasterControl, RloOperation};
+use s7_base::BlockRef;
 use status_word::{Check, Cmp, Jump};
 use timers::TimerKind;
 
@@ -74,6 +76,8 @@ pub enum Operand {
     Status(u8),
     /// `STW`
     StatusWord,
+    /// A block that is called.
+    Block(BlockRef),
 }
 
 /// Statements on a bit.
@@ -81,14 +85,10 @@ pub enum Operand {
 pub enum BitInstruction {
     /// `A AN O ON X XN`
     Check(Check),
-    /// `=`
-    Assign,
-    /// `S`
-    Set,
-    /// `R`
-    Reset,
-    /// `FP` where it rises, else `FN`
-    Edge(bool),
+    /// `= S R`
+    Write(BitWrite),
+    /// `FP FN`
+    Edge(Edge),
 }
 
 /// Statements on the status word alone.
@@ -98,14 +98,8 @@ pub enum StatusInstruction {
     Check(Check, u8),
     /// `O` alone
     OrAlone,
-    /// `NOT`
-    Invert,
-    /// `SET`
-    SetRlo,
-    /// `CLR`
-    ClearRlo,
-    /// `SAVE`
-    SaveRlo,
+    /// `NOT SET CLR SAVE`
+    Rlo(RloOperation),
 }
 
 /// Brackets of logic, and the master control relay (MCR).
@@ -115,12 +109,8 @@ pub enum GroupInstruction {
     Open(Check),
     /// `)`
     Close,
-    /// `MCR(`
-    OpenZone,
-    /// `)MCR`
-    CloseZone,
-    /// `MCRA` where it is to be active, else `MCRD`
-    Activate(bool),
+    /// `MCRA MCRD MCR( )MCR`
+    MasterControl(MasterControl),
 }
 
 /// Loads and transfers of values.
@@ -252,6 +242,10 @@ pub enum Instruction {
     Timed(TimedOperation, u8),
     /// A counter of this number.
     Counter(CounterOperation, u8),
+    /// `CALL` of an FC, `UC`
+    Call(BlockRef),
+    /// `CC`
+    CallWhenSet(BlockRef),
     /// `BE` and `BEU`
     End,
     /// `BEC`
@@ -272,6 +266,8 @@ pub enum Flow {
     Jump(u32),
     /// To the jump of this number, from 0, of those that follow, or past the last of them to the target.
     Among { number: u8, target: u32 },
+    /// Into the block that is called, at whose end the next statement follows.
+    Call(BlockRef),
     /// To the end of the block.
     End,
     /// To the error of this number; the statement changed nothing.

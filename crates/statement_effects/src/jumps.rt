@@ -1,12 +1,13 @@
-//! Jumps and ends of blocks.
+//! Jumps, conditional calls and ends of blocks.
 ghost use Rattle.std.specs.Prelude.{◌≡◌, ◌≢◌, ◌≤◌};
 ghost use Rattle.accumulators.specs.declared.parts.Part.{Part};
 ghost use Rattle.accumulators.specs.Parts.{with_low};
-ghost use Rattle.statement_effects.specs.JumpEffect.{lowered, effect_jump, effect_end_when_set};
+ghost use Rattle.statement_effects.specs.JumpEffect.{lowered, effect_jump, effect_call_when_set, effect_end_when_set};
 
 use crate::Registers;
 use crate::instruction::{Flow, JumpInstruction};
 use accumulators::Accus;
+use s7_base::BlockRef;
 
 /// The low word of an accumulator, lowered by 1; below 0 comes 65535.
 fn lowered(accus: &Accus) -> u32
@@ -46,6 +47,19 @@ impl Registers {
                     Flow::Jump(target)
                 }
             }
+        }
+    }
+
+    /// `CC`.
+    pub(crate) fn execute_call_when_set(&mut self, callee: BlockRef) -> Flow
+        ensures effect { effect_call_when_set callee self.old ≡ (self.new, result) }
+        ensures goes { result ≢ Flow.AskNow }
+    {
+        if self.status.rlo {
+            Flow::Call(callee)
+        } else {
+            self.status.after_jump(false, true);
+            Flow::Next
         }
     }
 

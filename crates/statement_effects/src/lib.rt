@@ -5,6 +5,7 @@ mod areas;
 mod bits;
 mod clocks;
 mod counting;
+mod decoded;
 mod decoding;
 mod execute;
 mod instruction;
@@ -16,6 +17,7 @@ mod reading;
 mod resolving;
 
 pub use areas::{Memory, Registers};
+pub use decoded::{Decoded, DecodedBlock};
 pub use instruction::{
     AccuInstruction, BitInstruction, BitOperand, BitPlace, ByteArea, CounterOperation,
     DirectInstruction, Flow, GroupInstruction, Instruction, JumpInstruction, MoveInstruction,

@@ -3,8 +3,6 @@ ghost use Rattle.std.specs.Prelude.{◌≡◌, Some, IfSome};
 ghost use Rattle.statement_effects.specs.Reading.{bit_of, status_check_of, move_of, status_word_of, timer_of, timed_of, counter_of, logic, alone, means, instruction_of};
 ghost use Rattle.statement_effects.specs.Placed.{IsOperand, HasOperand};
 ghost use Rattle.statement_effects.specs.declared.instruction.Operand.TheVariants as operands;
-ghost use Rattle.statement_effects.specs.declared.instruction.Instruction.TheVariants as groups;
-ghost use Rattle.instruction_set.specs.declared.operation.Operation.TheVariants as operations;
 
 use crate::decoding::operand_of;
 use crate::instruction::{
@@ -13,10 +11,9 @@ use crate::instruction::{
     TimedOperation, TimerOperation, WordInstruction,
 };
 use instruction_set::{
-    BitWrite, BlockOperation, Check, Edge, MasterControl, Operation, RloOperation, Word, WordSize,
-    instruction_row,
+    BitWrite, BlockOperation, Check, Operation, Word, WordSize, instruction_row,
 };
-use s7_base::Statement;
+use s7_base::{BlockRef, Statement};
 
 /// With a bit.
 fn bit_of(op: Operation) -> Option<BitInstruction>
@@ -24,11 +21,8 @@ fn bit_of(op: Operation) -> Option<BitInstruction>
 {
     match op {
         Operation::Check(how) => Some(BitInstruction::Check(how)),
-        Operation::Write(BitWrite::Assign) => Some(BitInstruction::Assign),
-        Operation::Write(BitWrite::Set) => Some(BitInstruction::Set),
-        Operation::Write(BitWrite::Reset) => Some(BitInstruction::Reset),
-        Operation::Edge(Edge::Rising) => Some(BitInstruction::Edge(true)),
-        Operation::Edge(Edge::Falling) => Some(BitInstruction::Edge(false)),
+        Operation::Write(how) => Some(BitInstruction::Write(how)),
+        Operation::Edge(edge) => Some(BitInstruction::Edge(edge)),
         _ => None,
     }
 }
@@ -167,28 +161,6 @@ fn with_target(op: Operation, target: u32) -> Option<Instruction>
     }
 }
 
-fn rlo_instruction(op: RloOperation) -> StatusInstruction
-    ensures { alone (operations.Rlo op) ≡ Some (groups.Status result) }
-{
-    match op {
-        RloOperation::NegateRlo => StatusInstruction::Invert,
-        RloOperation::SetRlo => StatusInstruction::SetRlo,
-        RloOperation::ClearRlo => StatusInstruction::ClearRlo,
-        RloOperation::SaveRlo => StatusInstruction::SaveRlo,
-    }
-}
-
-fn mcr_instruction(op: MasterControl) -> GroupInstruction
-    ensures { alone (operations.MasterControl op) ≡ Some (groups.Group result) }
-{
-    match op {
-        MasterControl::Activate => GroupInstruction::Activate(true),
-        MasterControl::Deactivate => GroupInstruction::Activate(false),
-        MasterControl::OpenZone => GroupInstruction::OpenZone,
-        MasterControl::CloseZone => GroupInstruction::CloseZone,
-    }
-}
-
 /// Alone; of the statements on blocks the ends only.
 fn alone(op: Operation) -> Option<Instruction>
     ensures means { result ≡ alone op }
@@ -198,8 +170,10 @@ fn alone(op: Operation) -> Option<Instruction>
         Operation::AndBeforeOr => Some(Instruction::Status(StatusInstruction::OrAlone)),
         Operation::Open(how) => Some(Instruction::Group(GroupInstruction::Open(how))),
         Operation::Close => Some(Instruction::Group(GroupInstruction::Close)),
-        Operation::Rlo(op) => Some(Instruction::Status(rlo_instruction(op))),
-        Operation::MasterControl(op) => Some(Instruction::Group(mcr_instruction(op))),
+        Operation::Rlo(op) => Some(Instruction::Status(StatusInstruction::Rlo(op))),
+        Operation::MasterControl(op) => {
+            Some(Instruction::Group(GroupInstruction::MasterControl(op)))
+        }
         Operation::Move(op) => Some(Instruction::Accu(AccuInstruction::Move(op))),
         Operation::Number(op) => Some(Instruction::Number(NumberInstruction::Work(op))),
         Operation::FromBcd(size) => {
@@ -233,6 +207,24 @@ fn with_timer(op: Operation, n: u8) -> Option<Instruction>
     Some(Instruction::Timed(op, n))
 }
 
+/// With a block that is called.
+fn with_block(op: Operation, callee: BlockRef) -> Option<Instruction>
+    ensures means { result ≡ means op (operands.Block callee) }
+    ensures placed { IfSome result HasOperand }
+{
+    match op {
+        Operation::Block(
+            BlockOperation::CallFunction
+            | BlockOperation::UnconditionalCallFunction
+            | BlockOperation::UnconditionalCallFunctionBlock,
+        ) => Some(Instruction::Call(callee)),
+        Operation::Block(
+            BlockOperation::ConditionalCallFunction | BlockOperation::ConditionalCallFunctionBlock,
+        ) => Some(Instruction::CallWhenSet(callee)),
+        _ => None,
+    }
+}
+
 /// What an operation with an operand means.
 fn means(op: Operation, operand: Operand) -> Option<Instruction>
     requires { IsOperand operand }
@@ -262,6 +254,7 @@ fn means(op: Operation, operand: Operand) -> Option<Instruction>
             Some(Instruction::Status(StatusInstruction::Check(how, n)))
         }
         Operand::StatusWord => status_word_of(op),
+        Operand::Block(callee) => with_block(op, callee),
     }
 }
 

@@ -18,4 +18,5 @@ pub returns-clause-stored : goal.returns-clause-stored
 returns-clause-stored c = record {
   here = c.code_index-code.ensures;
   later = indexed_push c.args.self.now.program _ _ c.args.frame c.push.ensures.items c.requires.frames c.requires.indexed;
+  decoded = c.requires.decoded;
 }

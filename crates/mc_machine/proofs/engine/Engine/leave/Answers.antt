@@ -15,4 +15,4 @@ returns-clause-sound c =
 pub returns-clause-stored : goal.returns-clause-stored
 returns-clause-stored c =
     let popped = indexed_pop c.args.self.now.program _ _ c.in-Some.frame c.in-Some.ensures.items c.requires.stored.later in
-    record { here = popped.1; later = popped.0 }
+    record { here = popped.1; later = popped.0; decoded = c.requires.stored.decoded }
