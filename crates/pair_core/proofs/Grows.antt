@@ -9,7 +9,7 @@ use Rattle.s7_base.specs.Blocks.{Program}
 use Rattle.subsystem.specs.Part.{Part}
 use Rattle.pair_core.specs.declared.turns.Act.{Act}
 use Rattle.pair_core.specs.declared.turns.Act.TheVariants.{Over, Dead, Take, Show, Mark, Unmarked, Behind, Append}
-use Rattle.pair_core.specs.declared.own.Own.{Own}
+use Rattle.pair_core.specs.OwnParts.{OwnPart, own_place}
 use Rattle.pair_core.specs.declared.sides.Sides.{Sides}
 use Rattle.pair_core.specs.Sides.{other_side, of_side, with_side}
 use Rattle.pair_core.specs.Setup.{Setup}
@@ -34,7 +34,7 @@ acted_grows p w s Unmarked = same w.log.entries
 acted_grows p w s Behind = same w.log.entries
 acted_grows p w s Append = appended_grows w s (next_entry p w.log)
 
-other_put : (parts : Sides Own) (s : Side) (own : Own) → of_side (with_side parts s own) (other_side s) ≡ of_side parts (other_side s)
+other_put : (parts : Sides OwnPart) (s : Side) (own : OwnPart) → of_side (with_side parts s own) (other_side s) ≡ of_side parts (other_side s)
 other_put parts A own = refl
 other_put parts B own = refl
 
@@ -62,11 +62,11 @@ take_prefix : (es rest all : List Entry) (k : ℕ) → es ++ rest ≡ all → k 
 take_prefix es rest all k is le = rw (← is) (take-append-le k es rest le)
 
 -- a subsystem that is where a part says stays so in a longer record
-pub stays : (program : Program) (own : Own) (es fs : List Entry) (s : Part) → IsAt program own es s → own.place ≤ length es → IsPrefix es fs → IsAt program own fs s
+pub stays : (program : Program) (own : OwnPart) (es fs : List Entry) (s : Part) → IsAt program own es s → own_place own ≤ length es → IsPrefix es fs → IsAt program own fs s
 stays program own es fs s h few more = record {
   lives = h.lives;
   idle = h.idle;
-  machine = λ on. subst (λ xs. StandsAfter program xs s.machine) (sym (take_prefix es more.0 fs own.place more.1 few)) (h.machine on);
+  machine = λ on. subst (λ xs. StandsAfter program xs s.machine) (sym (take_prefix es more.0 fs (own_place own) more.1 few)) (h.machine on);
 }
 
 -- a visit leaves the other side's subsystem where it stands

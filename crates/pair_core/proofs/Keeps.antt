@@ -11,16 +11,16 @@ use Rattle.plant_script.specs.Plan.{IsPlan}
 use Rattle.pair_core.specs.declared.endings.Ended.{Ended}
 use Rattle.pair_core.specs.declared.turns.Act.{Act}
 use Rattle.pair_core.specs.declared.turns.Act.TheVariants.{Over, Dead, Take, Show, Mark, Unmarked, Behind, Append}
-use Rattle.pair_core.specs.declared.own.Own.{Own}
+use Rattle.pair_core.specs.OwnParts.{OwnPart, own_place, taken_one, had_life, only_life}
 use Rattle.pair_core.specs.declared.sides.Sides.{Sides}
 use Rattle.pair_core.specs.Setup.{Setup}
 use Rattle.pair_core.specs.Ledger.{Ledger, first_ledger, ledger}
-use Rattle.pair_core.specs.Sides.{same_side, runs, after_answer, of_side, with_side}
+use Rattle.pair_core.specs.Sides.{same_side, runs, first_standing, after_answer, of_side, with_side}
 use Rattle.pair_core.specs.Cuts.{is_cut, is_late}
 use Rattle.pair_core.specs.Stops.{stop_of}
 use Rattle.pair_core.specs.Showings.{tagged, shown_of}
 use Rattle.pair_core.specs.Losses.{lost_at, loses_by}
-use Rattle.pair_core.specs.World.{Log, World, part, taken_one, standing_in, is_open, is_pending, has_shown, is_down, end_by, ended, is_behind, unless_over, must_wait, waits_for_other, when_taken, choose, next_entry, with_entry, with_shown, with_marked, appended, acted}
+use Rattle.pair_core.specs.World.{Log, World, part, standing_in, is_open, is_pending, has_shown, is_down, end_by, ended, is_behind, unless_over, must_wait, waits_for_other, when_taken, choose, next_entry, with_entry, with_shown, with_marked, appended, acted}
 use Rattle.pair_core.specs.Kept.{CanAct}
 use Rattle.pair_core.specs.Good.{Pending, GoodLog, IsRunningSide, IsSameSide, LastIsTaken, Good, shown_by}
 use Rattle.pair_core.proofs.Snoc.{moment_is, standing_snoc}
@@ -28,49 +28,50 @@ use Rattle.pair_core.proofs.Bounds.{shown_few}
 use Rattle.pair_core.proofs.Losses.{pick, lost_snoc, lost_out, in_after, ran_first}
 use Rattle.pair_core.proofs.Answers.{kind_stays, lost_was_cut}
 use Rattle.pair_core.proofs.Logs.{same_is, other_is, has_is, down_is, down_by, good_shown, good_marked, shown_up, marked_up, pending_shows, last_place}
+use Rattle.pair_core.proofs.OwnParts.{own_longer, lives_taken}
 use Rattle.pair_core.proofs.Added.{IsNext, is_next, next_kind, fresh_side, good_added}
 
 -- what is kept of the sides --------------------------------------------------
 
 -- what is kept of a side once it changed for one of them
-pub put_get : (parts : Sides Own) (s t : Side) (own : Own) → of_side (with_side parts s own) t ≡ (if same_side t s then own else of_side parts t)
+pub put_get : (parts : Sides OwnPart) (s t : Side) (own : OwnPart) → of_side (with_side parts s own) t ≡ (if same_side t s then own else of_side parts t)
 put_get parts A A own = refl
 put_get parts A B own = refl
 put_get parts B A own = refl
 put_get parts B B own = refl
 
-abbrev pub AllSides : Setup → Log → Sides Own → Type 0
+abbrev pub AllSides : Setup → Log → Sides OwnPart → Type 0
 AllSides p l parts = (t : Side) → IsSameSide p l t (of_side parts t)
 
-sides_put : (p : Setup) (l : Log) (parts : Sides Own) (s : Side) (own : Own) → ((t : Side) → IsSameSide p l t (if same_side t s then own else of_side parts t)) → AllSides p l (with_side parts s own)
+sides_put : (p : Setup) (l : Log) (parts : Sides OwnPart) (s : Side) (own : OwnPart) → ((t : Side) → IsSameSide p l t (if same_side t s then own else of_side parts t)) → AllSides p l (with_side parts s own)
 sides_put p l parts s own each t = subst (IsSameSide p l t) (sym (put_get parts s t own)) (each t)
 
-one_changed : (p : Setup) (l : Log) (parts : Sides Own) (s t : Side) (own : Own) (same : Bool) → same_side t s ≡ same → AllSides p l parts → IsSameSide p l s own
+one_changed : (p : Setup) (l : Log) (parts : Sides OwnPart) (s t : Side) (own : OwnPart) (same : Bool) → same_side t s ≡ same → AllSides p l parts → IsSameSide p l s own
     → IsSameSide p l t (if same then own else of_side parts t)
 one_changed p l parts s t own true is all new = subst (λ v. IsSameSide p l v own) (sym (same_is t s is)) new
 one_changed p l parts s t own false is all new = all t
 
-own_put : (parts : Sides Own) (s : Side) (own : Own) → of_side (with_side parts s own) s ≡ own
+own_put : (parts : Sides OwnPart) (s : Side) (own : OwnPart) → of_side (with_side parts s own) s ≡ own
 own_put parts A own = refl
 own_put parts B own = refl
 
 -- one side changed
-side_changed : (p : Setup) (l : Log) (parts : Sides Own) (s : Side) (own : Own) → AllSides p l parts → IsSameSide p l s own → AllSides p l (with_side parts s own)
+side_changed : (p : Setup) (l : Log) (parts : Sides OwnPart) (s : Side) (own : OwnPart) → AllSides p l parts → IsSameSide p l s own → AllSides p l (with_side parts s own)
 side_changed p l parts s own all new = sides_put p l parts s own (λ t. one_changed p l parts s t own (same_side t s) refl all new)
 
 -- a change of a side that leaves its place
-same_place : (parts : Sides Own) (s t : Side) (own : Own) → own.place ≡ (of_side parts s).place → (of_side (with_side parts s own) t).place ≡ (of_side parts t).place
+same_place : (parts : Sides OwnPart) (s t : Side) (own : OwnPart) → own_place own ≡ own_place (of_side parts s) → own_place (of_side (with_side parts s own) t) ≡ own_place (of_side parts t)
 same_place parts A A own h = h
 same_place parts A B own h = refl
 same_place parts B A own h = refl
 same_place parts B B own h = h
 
 -- and so the last entry is taken by whom it was
-place_kept : (p : Setup) (w : World) (s : Side) (own : Own) → own.place ≡ (part w s).place → LastIsTaken p w → LastIsTaken p (record w { parts = with_side w.parts s own })
+place_kept : (p : Setup) (w : World) (s : Side) (own : OwnPart) → own_place own ≡ own_place (part w s) → LastIsTaken p w → LastIsTaken p (record w { parts = with_side w.parts s own })
 place_kept p w s own same taken none = taken (λ t run. ap (λ k. k + 1) (sym (same_place w.parts s t own same)) ∙ none t run)
 
 -- a side that runs and has taken all entries
-someone_took : (p : Setup) (w : World) (s : Side) → runs (standing_in p w.log) s ≡ true → length w.log.entries ≤ (part w s).place → LastIsTaken p w
+someone_took : (p : Setup) (w : World) (s : Side) → runs (standing_in p w.log) s ≡ true → length w.log.entries ≤ own_place (part w s) → LastIsTaken p w
 someone_took p w s run here none = absurd (let one = none s run in omega (arith, here, one))
 
 -- the act can be done, and the record, the showings and the sides stay as they are to be
@@ -92,7 +93,7 @@ keeps_over p w s ending good =
       can = tt;
       log = good.log;
       sides = side_changed p w.log w.parts s (record (part w s) { over = true }) good.sides
-          (record { few = h.few; loaded = h.loaded; lost = h.lost; running = λ run. (let r = h.running run in record { near = r.near; alive = r.alive }) });
+          (record { few = h.few; lives = h.lives; lost = h.lost; running = λ run. (let r = h.running run in record { near = r.near; alive = r.alive }) });
       taken = place_kept p w s (record (part w s) { over = true }) refl good.taken;
     }
 
@@ -108,7 +109,7 @@ keeps_dead p w s good out =
       log = good.log;
       sides = side_changed p w.log w.parts s (record (part w s) { alive = false }) good.sides (record {
         few = h.few;
-        loaded = h.loaded;
+        lives = h.lives;
         lost = h.lost;
         running = λ run. (let r = h.running run in record {
           near = r.near;
@@ -122,24 +123,30 @@ keeps_dead p w s good out =
 runs_not_lost : (p : Setup) (l : Log) (s : Side) → GoodLog p l → runs (standing_in p l) s ≡ true → (j : ℕ) → lost_at l.entries s ≡ Some j → ⊥
 runs_not_lost p l s good run j h = (let out = lost_out p s (first_ledger p) 0 l.entries good.same.lawful j h in cc)
 
--- a side that runs began by a load
-runs_loaded : (p : Setup) (w : World) (s : Side) → Fair p w → runs (standing_in p w.log) s ≡ true → (part w s).loaded ≡ true
-runs_loaded p w s good run = (good.sides s).loaded ∙ ran_first p s w.log.entries good.log.same.lawful run
+-- a side that runs ran at first
+runs_first : (p : Setup) (w : World) (s : Side) → Fair p w → runs (standing_in p w.log) s ≡ true → runs (first_standing p.solo) s ≡ true
+runs_first p w s good run = ran_first p s w.log.entries good.log.same.lawful run
 
-keeps_take : (p : Setup) (w : World) (s : Side) → Fair p w → runs (standing_in p w.log) s ≡ true → is_down p w.log s ≡ false → (part w s).place < length w.log.entries → Keeps p w s Take
+-- so it has had a life
+runs_had : (p : Setup) (w : World) (s : Side) → Fair p w → runs (standing_in p w.log) s ≡ true → had_life (part w s).lives ≡ true
+runs_had p w s good run = ap had_life ((good.sides s).lives ∙ ap (λ began. only_life began (own_place (part w s))) (runs_first p w s good run))
+
+keeps_take : (p : Setup) (w : World) (s : Side) → Fair p w → runs (standing_in p w.log) s ≡ true → is_down p w.log s ≡ false → own_place (part w s) < length w.log.entries → Keeps p w s Take
 keeps_take p w s good run up less =
     let h = good.sides s in
     let r = h.running run in
+    let had = runs_had p w s good run in
+    let further = own_longer (part w s) had in
     record {
-      can = (r.alive up, runs_loaded p w s good run, less);
+      can = (r.alive up, had, less);
       log = good.log;
       sides = side_changed p w.log w.parts s (taken_one (part w s)) good.sides (record {
-        few = omega (arith, less);
-        loaded = h.loaded;
+        few = omega (arith, less, further);
+        lives = lives_taken (part w s) (runs (first_standing p.solo) s) (runs_first p w s good run) h.lives;
         lost = λ j lost. absurd (runs_not_lost p w.log s good.log run j lost);
-        running = λ _. record { near = omega (arith, r.near); alive = r.alive };
+        running = λ _. record { near = omega (arith, r.near, further); alive = r.alive };
       });
-      taken = someone_took p (acted p w s Take).world s run (omega (arith, r.near, ap (λ (own : Own). own.place) (own_put w.parts s (taken_one (part w s)))));
+      taken = someone_took p (acted p w s Take).world s run (omega (arith, r.near, further, ap (λ (own : OwnPart). own_place own) (own_put w.parts s (taken_one (part w s)))));
     }
 
 -- outputs --------------------------------------------------------------------
@@ -160,20 +167,20 @@ few_shown p l s good h has =
     let all : length l.shown ≡ length (shown_of p h.front) + length sides = ap length h.shown ∙ (length-append (shown_of p h.front) (tagged (length h.front) sides) ∙ ap (λ n. length (shown_of p h.front) + n) (length-map sides (λ x. (length h.front, x)))) in
     omega (arith, one, base, all, last_place p l h, good.same.within)
 
-sides_shown : (p : Setup) (l : Log) (s : Side) (parts : Sides Own) → 0 < length l.entries → AllSides p l parts → AllSides p (with_shown l s) parts
+sides_shown : (p : Setup) (l : Log) (s : Side) (parts : Sides OwnPart) → 0 < length l.entries → AllSides p l parts → AllSides p (with_shown l s) parts
 sides_shown p l s parts some all t =
     let h = all t in record {
       few = h.few;
-      loaded = h.loaded;
+      lives = h.lives;
       lost = h.lost;
       running = λ run. (let r = h.running run in record { near = r.near; alive = λ up. r.alive (shown_up p l s t some up) });
     }
 
-sides_marked : (p : Setup) (l : Log) (parts : Sides Own) → AllSides p l parts → AllSides p (with_marked l) parts
+sides_marked : (p : Setup) (l : Log) (parts : Sides OwnPart) → AllSides p l parts → AllSides p (with_marked l) parts
 sides_marked p l parts all t =
     let h = all t in record {
       few = h.few;
-      loaded = h.loaded;
+      lives = h.lives;
       lost = h.lost;
       running = λ run. (let r = h.running run in record { near = r.near; alive = λ up. r.alive (marked_up p l t up) });
     }
@@ -235,22 +242,22 @@ and_up true false behind up h = h
 and_up false down behind up h = refl
 
 early_by : (p : Setup) (w : World) (s : Side) (on : Bool) → is_open p w.log ≡ on → ended p w ≡ None → is_pending w.log ≡ false
-    → nat_lt (part w s).place (length w.log.entries) ≡ false → waits_for_other p w s ≡ false → on ≡ true
+    → nat_lt (own_place (part w s)) (length w.log.entries) ≡ false → waits_for_other p w s ≡ false → on ≡ true
 unfolding ended
 early_by p w s true is goes settled all other = refl
 early_by p w A false is goes settled all other =
     let up : is_down p w.log B ≡ false = rw (down_is p w.log B, is) in
     absurd (not_both (is_behind p w A) (is_behind p w B) (is_pending w.log) (stop_of w.log.entries)
     (rw all (and_false (runs (standing_in p w.log) A)))
-    (and_up (runs (standing_in p w.log) B) (is_down p w.log B) (nat_lt w.parts.b.place (length w.log.entries)) up other) settled (rw is at goes))
+    (and_up (runs (standing_in p w.log) B) (is_down p w.log B) (nat_lt (own_place w.parts.b) (length w.log.entries)) up other) settled (rw is at goes))
 early_by p w B false is goes settled all other =
     let up : is_down p w.log A ≡ false = rw (down_is p w.log A, is) in
     absurd (not_both (is_behind p w A) (is_behind p w B) (is_pending w.log) (stop_of w.log.entries)
-    (and_up (runs (standing_in p w.log) A) (is_down p w.log A) (nat_lt w.parts.a.place (length w.log.entries)) up other)
+    (and_up (runs (standing_in p w.log) A) (is_down p w.log A) (nat_lt (own_place w.parts.a) (length w.log.entries)) up other)
     (rw all (and_false (runs (standing_in p w.log) B))) settled (rw is at goes))
 
 module _ (p : Setup) (w : World) (s : Side) (e : Entry) (good : Fair p w) (next : IsNext p w.log e) (run : runs (standing_in p w.log) s ≡ true) (up : is_down p w.log s ≡ false)
-    (settled : is_pending w.log ≡ false) (on : is_open p w.log ≡ true) (here : length w.log.entries ≤ (part w s).place) (other : waits_for_other p w s ≡ false) where
+    (settled : is_pending w.log ≡ false) (on : is_open p w.log ≡ true) (here : length w.log.entries ≤ own_place (part w s)) (other : waits_for_other p w s ≡ false) where
   abbrev more : List Entry
   more = w.log.entries ++ e ∷ []
 
@@ -271,20 +278,23 @@ module _ (p : Setup) (w : World) (s : Side) (e : Entry) (good : Fair p w) (next 
       (subst (λ k. is_cut p.plan t k ≡ true) (moment_is p w.log.entries) h.0, h.1)
 
   -- the visitor
+  further : own_place (taken_one (part w s)) ≡ own_place (part w s) + 1
+  further = own_longer (part w s) (runs_had p w s good run)
+
   own_running : IsRunningSide p (with_entry w.log e) s (taken_one (part w s))
   own_running =
       let alive = ((good.sides s).running run).alive up in
-      record { near = omega (arith, here, longer); alive = λ _. alive }
+      record { near = omega (arith, here, longer, further); alive = λ _. alive }
 
   -- another side that runs still
   other_running : (t : Side) → same_side t s ≡ false → runs (standing_in p (with_entry w.log e)) t ≡ true → IsRunningSide p (with_entry w.log e) t (part w t)
   other_running t is r =
       let was = before t r in
       let down : is_down p w.log t ≡ false = plain_down p w.log t settled on ∙ was.0 in
-      let taken : nat_lt (part w t).place (length w.log.entries) ≡ false =
-      other_taken (runs (standing_in p w.log) t) (is_down p w.log t) (nat_lt (part w t).place (length w.log.entries)) was.1 down
-      (subst (λ v. (runs (standing_in p w.log) v && not (is_down p w.log v) && nat_lt (part w v).place (length w.log.entries)) ≡ false) (sym (other_is t s is)) other) in
-      let all : length w.log.entries ≤ (part w t).place = grind (arith, nat_tests) in
+      let taken : nat_lt (own_place (part w t)) (length w.log.entries) ≡ false =
+      other_taken (runs (standing_in p w.log) t) (is_down p w.log t) (nat_lt (own_place (part w t)) (length w.log.entries)) was.1 down
+      (subst (λ v. (runs (standing_in p w.log) v && not (is_down p w.log v) && nat_lt (own_place (part w v)) (length w.log.entries)) ≡ false) (sym (other_is t s is)) other) in
+      let all : length w.log.entries ≤ (own_place (part w t)) = grind (arith, nat_tests) in
       let alive = ((good.sides t).running was.1).alive down in
       record { near = omega (arith, all, longer); alive = λ _. alive }
 
@@ -305,8 +315,8 @@ module _ (p : Setup) (w : World) (s : Side) (e : Entry) (good : Fair p w) (next 
 
   own_side : IsSameSide p (with_entry w.log e) s (taken_one (part w s))
   own_side = record {
-    few = omega (arith, (good.sides s).few, longer);
-    loaded = (good.sides s).loaded;
+    few = omega (arith, (good.sides s).few, longer, further);
+    lives = lives_taken (part w s) (runs (first_standing p.solo) s) (runs_first p w s good run) (good.sides s).lives;
     running = λ _. own_running;
     lost = λ j h. elim (lost_any s j h) [
       | inl old ↦ absurd (runs_not_lost p w.log s good.log run j old)
@@ -317,7 +327,7 @@ module _ (p : Setup) (w : World) (s : Side) (e : Entry) (good : Fair p w) (next 
   other_side_is : (t : Side) → same_side t s ≡ false → IsSameSide p (with_entry w.log e) t (part w t)
   other_side_is t is = record {
     few = omega (arith, (good.sides t).few, longer);
-    loaded = (good.sides t).loaded;
+    lives = (good.sides t).lives;
     running = other_running t is;
     lost = λ j h. elim (lost_any t j h) [
       | inl old ↦ (good.sides t).lost j old
@@ -338,11 +348,11 @@ module _ (p : Setup) (w : World) (s : Side) (e : Entry) (good : Fair p w) (next 
   stays false is = in_after (standing_in p w.log) e.answer s is (kind_stays p (ledger p w.log.entries) e.answer (next_kind p w.log e next)) ∙ run
 
   -- and it has taken it
-  pub taken_added : LastIsTaken p (record { log = with_entry w.log e; parts = with_side w.parts s (taken_one (part w s)) })
+  pub taken_added : LastIsTaken p (record w { log = with_entry w.log e; parts = with_side w.parts s (taken_one (part w s)) })
   taken_added =
       let still : runs (standing_in p (with_entry w.log e)) s ≡ true = rw (standing_snoc p w.log.entries e) (stays (loses_by e.answer s) refl) in
-      someone_took p (record { log = with_entry w.log e; parts = with_side w.parts s (taken_one (part w s)) }) s still
-      (omega (arith, here, longer, ap (λ (own : Own). own.place) (own_put w.parts s (taken_one (part w s)))))
+      someone_took p (record w { log = with_entry w.log e; parts = with_side w.parts s (taken_one (part w s)) }) s still
+      (omega (arith, here, longer, further, ap (λ (own : OwnPart). own_place own) (own_put w.parts s (taken_one (part w s)))))
 
   pub log_added : GoodLog p (with_entry w.log e)
   log_added = good_added p w.log e s good.log next settled run uncut on
@@ -354,7 +364,7 @@ record After (p : Setup) (w : World) : Type 0 where
   taken : LastIsTaken p w
 
 keeps_next : (p : Setup) (w : World) (s : Side) (o : Option Entry) → next_entry p w.log ≡ o → Fair p w → runs (standing_in p w.log) s ≡ true → is_down p w.log s ≡ false → is_pending w.log ≡ false
-    → is_open p w.log ≡ true → length w.log.entries ≤ (part w s).place → waits_for_other p w s ≡ false → After p (appended w s o).world
+    → is_open p w.log ≡ true → length w.log.entries ≤ own_place (part w s) → waits_for_other p w s ≡ false → After p (appended w s o).world
 keeps_next p w s None is good run up settled on here other = record { log = good.log; sides = good.sides; taken = good.taken }
 keeps_next p w s (Some e) is good run up settled on here other = record {
   log = log_added p w s e good (is_next p w.log e is) run up settled on here other;
@@ -363,14 +373,14 @@ keeps_next p w s (Some e) is good run up settled on here other = record {
 }
 
 keeps_append : (p : Setup) (w : World) (s : Side) → Fair p w → ended p w ≡ None → runs (standing_in p w.log) s ≡ true → is_down p w.log s ≡ false → is_pending w.log ≡ false
-    → nat_lt (part w s).place (length w.log.entries) ≡ false → waits_for_other p w s ≡ false → Keeps p w s Append
+    → nat_lt (own_place (part w s)) (length w.log.entries) ≡ false → waits_for_other p w s ≡ false → Keeps p w s Append
 keeps_append p w s good goes run up settled all other =
     let on : is_open p w.log ≡ true = early_by p w s (is_open p w.log) refl goes settled all other in
-    let here : length w.log.entries ≤ (part w s).place = grind (arith, nat_tests) in
+    let here : length w.log.entries ≤ (own_place (part w s)) = grind (arith, nat_tests) in
     let h = good.sides s in
     let new = keeps_next p w s (next_entry p w.log) refl good run up settled on here other in
     record {
-      can = ((h.running run).alive up, runs_loaded p w s good run, omega (arith, h.few, here), on);
+      can = ((h.running run).alive up, runs_had p w s good run, omega (arith, h.few, here), on);
       log = new.log;
       sides = new.sides;
       taken = new.taken;
@@ -379,7 +389,7 @@ keeps_append p w s good goes run up settled all other =
 -- the visit, test by test ------------------------------------------------------
 
 keeps_other : (p : Setup) (w : World) (s : Side) (b : Bool) → waits_for_other p w s ≡ b → Fair p w → ended p w ≡ None → runs (standing_in p w.log) s ≡ true → is_down p w.log s ≡ false → is_pending w.log ≡ false
-    → nat_lt (part w s).place (length w.log.entries) ≡ false → Keeps p w s (if b then Behind else Append)
+    → nat_lt (own_place (part w s)) (length w.log.entries) ≡ false → Keeps p w s (if b then Behind else Append)
 keeps_other p w s true is good goes run up settled all = record { can = tt; log = good.log; sides = good.sides; taken = good.taken }
 keeps_other p w s false is good goes run up settled all = keeps_append p w s good goes run up settled all is
 
@@ -390,7 +400,7 @@ keeps_output p w s false true is has fine good run up pending = keeps_mark p w s
 keeps_output p w s false false is has fine good run up pending = keeps_show p w s fine good pending run up has is
 
 keeps_taken : (p : Setup) (w : World) (s : Side) (pending : Bool) → is_pending w.log ≡ pending → IsPlan p.plan → Fair p w → ended p w ≡ None → runs (standing_in p w.log) s ≡ true → is_down p w.log s ≡ false
-    → nat_lt (part w s).place (length w.log.entries) ≡ false
+    → nat_lt (own_place (part w s)) (length w.log.entries) ≡ false
     → Keeps p w s (if pending then (if must_wait p w.log s then Unmarked else (if has_shown w.log s then Mark else Show)) else (if waits_for_other p w s then Behind else Append))
 keeps_taken p w s true is fine good goes run up all = keeps_output p w s (must_wait p w.log s) (has_shown w.log s) refl refl fine good run up is
 keeps_taken p w s false is fine good goes run up all = keeps_other p w s (waits_for_other p w s) refl good goes run up is all
@@ -404,20 +414,20 @@ in_up : (down run : Bool) → (down || not run) ≡ false → down ≡ false
 in_up true run h = absurd cc
 in_up false run h = refl
 
-keeps_in : (p : Setup) (w : World) (s : Side) (behind : Bool) → nat_lt (part w s).place (length w.log.entries) ≡ behind → IsPlan p.plan → Fair p w → ended p w ≡ None → runs (standing_in p w.log) s ≡ true → is_down p w.log s ≡ false
+keeps_in : (p : Setup) (w : World) (s : Side) (behind : Bool) → nat_lt (own_place (part w s)) (length w.log.entries) ≡ behind → IsPlan p.plan → Fair p w → ended p w ≡ None → runs (standing_in p w.log) s ≡ true → is_down p w.log s ≡ false
     → Keeps p w s (if behind then Take else when_taken p w s)
 keeps_in p w s true is fine good goes run up =
-    let less : (part w s).place < length w.log.entries = grind (arith, nat_tests) in keeps_take p w s good run up less
+    let less : own_place (part w s) < length w.log.entries = grind (arith, nat_tests) in keeps_take p w s good run up less
 keeps_in p w s false is fine good goes run up = keeps_taken p w s (is_pending w.log) refl fine good goes run up is
 
 keeps_on : (p : Setup) (w : World) (s : Side) (out : Bool) → (is_down p w.log s || not (runs (standing_in p w.log) s)) ≡ out → IsPlan p.plan → Fair p w → ended p w ≡ None
-    → Keeps p w s (if out then Dead else (if nat_lt (part w s).place (length w.log.entries) then Take else when_taken p w s))
+    → Keeps p w s (if out then Dead else (if nat_lt (own_place (part w s)) (length w.log.entries) then Take else when_taken p w s))
 keeps_on p w s true is fine good goes = keeps_dead p w s good is
 keeps_on p w s false is fine good goes =
-    keeps_in p w s (nat_lt (part w s).place (length w.log.entries)) refl fine good goes (in_run (is_down p w.log s) (runs (standing_in p w.log) s) is) (in_up (is_down p w.log s) (runs (standing_in p w.log) s) is)
+    keeps_in p w s (nat_lt (own_place (part w s)) (length w.log.entries)) refl fine good goes (in_run (is_down p w.log s) (runs (standing_in p w.log) s) is) (in_up (is_down p w.log s) (runs (standing_in p w.log) s) is)
 
 keeps_from : (p : Setup) (w : World) (s : Side) (over : Option Ended) → ended p w ≡ over → IsPlan p.plan → Fair p w
-    → Keeps p w s (unless_over over (if is_down p w.log s || not (runs (standing_in p w.log) s) then Dead else (if nat_lt (part w s).place (length w.log.entries) then Take else when_taken p w s)))
+    → Keeps p w s (unless_over over (if is_down p w.log s || not (runs (standing_in p w.log) s) then Dead else (if nat_lt (own_place (part w s)) (length w.log.entries) then Take else when_taken p w s)))
 keeps_from p w s (Some ending) is fine good = keeps_over p w s ending good
 keeps_from p w s None is fine good = keeps_on p w s (is_down p w.log s || not (runs (standing_in p w.log) s)) refl fine good is
 

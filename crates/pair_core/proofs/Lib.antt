@@ -9,6 +9,7 @@ pub mod Logs
 pub mod Losses
 pub mod Opens
 pub mod Overs
+pub mod OwnParts
 pub mod Prefixes
 pub mod Progress
 pub mod Runs

@@ -7,7 +7,7 @@ use Rattle.s7_events.specs.declared.entry.Entry.{Entry}
 use Rattle.pair_core.specs.declared.endings.Ended.{Ended}
 use Rattle.pair_core.specs.declared.turns.Act.{Act}
 use Rattle.pair_core.specs.declared.turns.Act.TheVariants.{Over, Dead, Take, Show, Mark, Unmarked, Behind, Append}
-use Rattle.pair_core.specs.declared.own.Own.{Own}
+use Rattle.pair_core.specs.OwnParts.{OwnPart, own_place}
 use Rattle.pair_core.specs.declared.sides.Sides.{Sides}
 use Rattle.pair_core.specs.Sides.{runs, of_side, with_side}
 use Rattle.pair_core.specs.Turns.{is_over}
@@ -40,7 +40,7 @@ inner_not false false false u h false = tt
 
 abbrev pub inner_of : Setup → World → Side → Act
 inner_of p w s =
-    inner (is_down p w.log s || not (runs (standing_in p w.log) s)) (nat_lt (part w s).place (length w.log.entries)) (is_pending w.log)
+    inner (is_down p w.log s || not (runs (standing_in p w.log) s)) (nat_lt (own_place (part w s)) (length w.log.entries)) (is_pending w.log)
     (must_wait p w.log s) (has_shown w.log s) (waits_for_other p w s)
 
 pub choose_is : (p : Setup) (w : World) (s : Side) → choose p w s ≡ unless_over (ended p w) (inner_of p w s)
@@ -54,12 +54,12 @@ Chosen p w s (Some ending) = choose p w s ≡ Over ending
 pub chosen : (p : Setup) (w : World) (s : Side) (o : Option Ended) → ended p w ≡ o → Chosen p w s o
 chosen p w s None is =
     subst NotOver (sym (choose_is p w s ∙ ap (λ o. unless_over o (inner_of p w s)) is))
-    (inner_not (is_down p w.log s || not (runs (standing_in p w.log) s)) (nat_lt (part w s).place (length w.log.entries)) (is_pending w.log)
+    (inner_not (is_down p w.log s || not (runs (standing_in p w.log) s)) (nat_lt (own_place (part w s)) (length w.log.entries)) (is_pending w.log)
     (must_wait p w.log s) (has_shown w.log s) (waits_for_other p w s))
 chosen p w s (Some ending) is = choose_is p w s ∙ ap (λ o. unless_over o (inner_of p w s)) is
 
 -- a change of a side that leaves whether it was answered Over
-same_put : (parts : Sides Own) (s t : Side) (own : Own) → own.over ≡ (of_side parts s).over → (of_side (with_side parts s own) t).over ≡ (of_side parts t).over
+same_put : (parts : Sides OwnPart) (s t : Side) (own : OwnPart) → own.over ≡ (of_side parts s).over → (of_side (with_side parts s own) t).over ≡ (of_side parts t).over
 same_put parts A A own h = h
 same_put parts A B own h = refl
 same_put parts B A own h = refl

@@ -13,6 +13,7 @@ use Rattle.pair_core.specs.declared.turns.Act.{Act}
 use Rattle.pair_core.specs.declared.turns.Act.TheVariants.{Over, Show, Mark, Append}
 use Rattle.pair_core.specs.declared.standing.Standing.{Standing}
 use Rattle.pair_core.specs.Setup.{Setup}
+use Rattle.pair_core.specs.OwnParts.{own_place, had_life}
 use Rattle.pair_core.specs.Ledger.{first_ledger}
 use Rattle.pair_core.specs.Sides.{same_side, runs, first_standing}
 use Rattle.pair_core.specs.Endings.{ends_by_output}
@@ -21,6 +22,7 @@ use Rattle.pair_core.specs.World.{Log, World, part, standing_in, is_open, is_pen
 use Rattle.pair_core.specs.Kept.{CanAct}
 use Rattle.pair_core.specs.Good.{Good}
 use Rattle.pair_core.specs.Progress.{done_with_last, done_of, IsAlone}
+use Rattle.pair_core.proofs.OwnParts.{own_longer}
 use Rattle.pair_core.proofs.Snoc.{shown_past_snoc}
 use Rattle.pair_core.proofs.Losses.{stays_out}
 use Rattle.pair_core.proofs.Logs.{down_is, pending_kept, never}
@@ -81,21 +83,21 @@ no_wait : (m : Side) (down : Bool) → m ≡ A → (not (same_side A m) && not d
 no_wait A down is = refl
 no_wait B down is = absurd cc
 
-chooses : (p : Setup) (w : World) → IsSole (standing_in p w.log) → ended p w ≡ None → (part w A).place ≡ length w.log.entries
+chooses : (p : Setup) (w : World) → IsSole (standing_in p w.log) → ended p w ≡ None → own_place (part w A) ≡ length w.log.entries
     → choose p w A ≡ act_alone (is_pending w.log) (has_shown w.log A)
 chooses p w only goes here =
     let dead : (is_down p w.log A || not (runs (standing_in p w.log) A)) ≡ false = rw (up_now p w only goes, only.a) in
-    let taken : nat_lt (part w A).place (length w.log.entries) ≡ false = ap (λ k. nat_lt k (length w.log.entries)) here ∙ never (length w.log.entries) in
+    let taken : nat_lt (own_place (part w A)) (length w.log.entries) ≡ false = ap (λ k. nat_lt k (length w.log.entries)) here ∙ never (length w.log.entries) in
     let wait : must_wait p w.log A ≡ false = no_wait (standing_in p w.log).master (is_down p w.log (standing_in p w.log).master) only.master in
     let behind : waits_for_other p w A ≡ false = rw only.b in
     choose_is p w A
-    ∙ (ap (λ o. unless_over o (inner (is_down p w.log A || not (runs (standing_in p w.log) A)) (nat_lt (part w A).place (length w.log.entries)) (is_pending w.log) (must_wait p w.log A) (has_shown w.log A) (waits_for_other p w A))) goes
-    ∙ inner_alone (is_down p w.log A || not (runs (standing_in p w.log) A)) (nat_lt (part w A).place (length w.log.entries)) (is_pending w.log) (must_wait p w.log A) (has_shown w.log A) (waits_for_other p w A) dead taken wait behind)
+    ∙ (ap (λ o. unless_over o (inner (is_down p w.log A || not (runs (standing_in p w.log) A)) (nat_lt (own_place (part w A)) (length w.log.entries)) (is_pending w.log) (must_wait p w.log A) (has_shown w.log A) (waits_for_other p w A))) goes
+    ∙ inner_alone (is_down p w.log A || not (runs (standing_in p w.log) A)) (nat_lt (own_place (part w A)) (length w.log.entries)) (is_pending w.log) (must_wait p w.log A) (has_shown w.log A) (waits_for_other p w A) dead taken wait behind)
 
 -- what that does -----------------------------------------------------------------
 
 pub record Does (w v : World) : Type 0 where
-  pub place : (part v A).place ≡ length v.log.entries
+  pub place : own_place (part v A) ≡ length v.log.entries
   pub more : done_of w.log + 1 ≤ done_of v.log
 
 abbrev last_by : Bool → Bool → ℕ
@@ -119,14 +121,14 @@ marked_now : (l : Log) → is_pending (with_marked l) ≡ false
 unfolding is_pending
 marked_now l = elim (ends_by_output l.entries) as (λ b. (b && nat_lt (length l.entries) (length l.entries)) ≡ false) [ true ↦ never (length l.entries) | false ↦ refl ]
 
-adds : (w : World) (o : Option Entry) → is_some o ≡ true → (part w A).place ≡ length w.log.entries → Does w (appended w A o).world
-adds w None some here = absurd cc
-adds w (Some e) some here =
+adds : (w : World) (o : Option Entry) → is_some o ≡ true → had_life (part w A).lives ≡ true → own_place (part w A) ≡ length w.log.entries → Does w (appended w A o).world
+adds w None some had here = absurd cc
+adds w (Some e) some had here =
     let longer = length-append w.log.entries (e ∷ []) in
     let few = last_few (is_pending w.log) (has_shown w.log A) in
-    record { place = omega (arith, here, longer); more = omega (arith, few, longer) }
+    record { place = omega (arith, here, longer, own_longer (part w A) had); more = omega (arith, few, longer) }
 
-does_by : (p : Setup) (w : World) (pending shown : Bool) → is_pending w.log ≡ pending → has_shown w.log A ≡ shown → (part w A).place ≡ length w.log.entries
+does_by : (p : Setup) (w : World) (pending shown : Bool) → is_pending w.log ≡ pending → has_shown w.log A ≡ shown → own_place (part w A) ≡ length w.log.entries
     → CanAct p w A (act_alone pending shown) → (act_alone pending shown ≡ Append → is_some (next_entry p w.log) ≡ true) → Does w (acted p w A (act_alone pending shown)).world
 does_by p w true true is has here can next =
     let old = last_is w.log true true is has in
@@ -136,10 +138,10 @@ does_by p w true false is has here can next =
     let old = last_is w.log true false is has in
     let new = last_is (with_shown w.log A) true true (pending_kept w.log A ∙ is) (shows_now w.log can.0) in
     record { place = here; more = omega (arith, old, new) }
-does_by p w false shown is has here can next = adds w (next_entry p w.log) (next refl) here
+does_by p w false shown is has here can next = adds w (next_entry p w.log) (next refl) can.1 here
 
 does : (p : Setup) (w : World) → IsPlan p.plan → Good p w → p.solo ≡ true → (choose p w A ≡ Append → is_some (next_entry p w.log) ≡ true)
-    → (part w A).place ≡ length w.log.entries → ended p w ≡ None → Does w (step p w A).world
+    → own_place (part w A) ≡ length w.log.entries → ended p w ≡ None → Does w (step p w A).world
 does p w fine good solo next here goes =
     let is = chooses p w (sole p w good solo) goes here in
     subst (λ act. Does w (acted p w A act).world) (sym is)

@@ -20,13 +20,14 @@ use Rattle.pair_core.specs.Ledger.{Ledger, first_ledger, after}
 use Rattle.pair_core.specs.Sides.{runs, first_standing}
 use Rattle.pair_core.specs.Lawful.{MayStand, LawfulFrom}
 use Rattle.pair_core.specs.Losses.{loses_by, lost_from, lost_at}
-use Rattle.pair_core.specs.Lives.{Stretch, StretchEnd, with_run, Change, loses, keeps, change_of, ends_by, began_after, stretches_from, EndsAt, IsNext, IsLife, AreLivesOf, AreLives, place_of}
+use Rattle.pair_core.specs.Lives.{Stretch, StretchEnd, with_run, Change, loses, keeps, change_of, ends_by, began_after, stretches_from, EndsAt, IsNext, IsLife, IsUnreturned, AreLivesOf, AreLives, place_of}
 use Rattle.pair_core.specs.Lives.StretchEnd.{lost_at as is_lost_at}
 use Rattle.pair_core.specs.Endings.{is_gone, is_found_cut}
 use Rattle.pair_core.specs.Played.{answers_of, IsSideOf}
 use Rattle.pair_core.specs.World.{Log, World, part, standing_in, is_open, is_down, is_behind, ended}
 use Rattle.pair_core.specs.Finished.{ended_by}
-use Rattle.pair_core.specs.Places.{lives_of, StandsAfter, IsAt}
+use Rattle.pair_core.specs.OwnParts.{own_place}
+use Rattle.pair_core.specs.Places.{StandsAfter, IsAt}
 use Rattle.pair_core.specs.Endings.{HasTail}
 use Rattle.pair_core.specs.Good.{GoodLog, IsSameSide, Good}
 use Rattle.pair_core.proofs.Answers.{comes_back, answer_kind, kind_stays, kind_lost}
@@ -92,14 +93,14 @@ and_rest : (x y : Bool) → x ≡ true → (x && y) ≡ false → y ≡ false
 and_rest true y h f = f
 and_rest false y h f = absurd cc
 
-all_taken : (p : Setup) (w : World) (s : Side) → is_behind p w A ≡ false → is_behind p w B ≡ false → runs (standing_in p w.log) s ≡ true → IsSameSide p w.log s (part w s) → (part w s).place ≡ length w.log.entries
+all_taken : (p : Setup) (w : World) (s : Side) → is_behind p w A ≡ false → is_behind p w B ≡ false → runs (standing_in p w.log) s ≡ true → IsSameSide p w.log s (part w s) → own_place (part w s) ≡ length w.log.entries
 all_taken p w s a b run h =
-    let all : nat_lt (part w s).place (length w.log.entries) ≡ false = and_rest (runs (standing_in p w.log) s) (nat_lt (part w s).place (length w.log.entries)) run (not_behind p w s a b) in
-    let here : length w.log.entries ≤ (part w s).place = grind (arith, nat_tests) in
+    let all : nat_lt (own_place (part w s)) (length w.log.entries) ≡ false = and_rest (runs (standing_in p w.log) s) (nat_lt (own_place (part w s)) (length w.log.entries)) run (not_behind p w s a b) in
+    let here : length w.log.entries ≤ (own_place (part w s)) = grind (arith, nat_tests) in
     omega (arith, here, h.few)
 
 -- how far a side that runs came
-ends_at : (p : Setup) (w : World) (s : Side) (o : Option Ended) → Means p w o → runs (standing_in p w.log) s ≡ true → IsSameSide p w.log s (part w s) → EndsAt (length w.log.entries) (unwrap_or o Spent) (part w s).place
+ends_at : (p : Setup) (w : World) (s : Side) (o : Option Ended) → Means p w o → runs (standing_in p w.log) s ≡ true → IsSameSide p w.log s (part w s) → EndsAt (length w.log.entries) (unwrap_or o Spent) (own_place (part w s))
 ends_at p w s (Some End) m run h = all_taken p w s m.3 m.4 run h
 ends_at p w s (Some (Stop code)) m run h = all_taken p w s m.2 m.3 run h
 ends_at p w s (Some NoneLeft) m run h = (h.few, (h.running run).near)
@@ -107,31 +108,34 @@ ends_at p w s (Some Spent) m run h = absurd m
 ends_at p w s (Some NotPlayed) m run h = absurd m
 ends_at p w s None m run h = (h.few, (h.running run).near)
 
-next_by : (p : Setup) (w : World) (s : Side) → Good p w → runs (first_standing p.solo) s ≡ true → (o : Option ℕ) → lost_at w.log.entries s ≡ o → IsNext (length w.log.entries) (ended_by p w) (end_of o) (part w s).place
+next_by : (p : Setup) (w : World) (s : Side) → Good p w → runs (first_standing p.solo) s ≡ true → (o : Option ℕ) → lost_at w.log.entries s ≡ o → IsNext (length w.log.entries) (ended_by p w) (end_of o) (own_place (part w s))
 next_by p w s good first (Some j) is = (good.sides s).lost j is
 next_by p w s good first None is =
     let run : runs (standing_in p w.log) s ≡ true = not_lost p s (first_ledger p) 0 w.log.entries good.log.same.lawful is ∙ first in
     ends_at p w s (ended p w) (ended_means p w) run (good.sides s)
 
+abbrev Extra : Setup → World → Side → Life → Type 0
+Extra p w s life = IsUnreturned p.solo w.log.entries (ended_by p w) s life
+
 abbrev LivesAt : Setup → World → Side → Bool → List Life → Type 0
-LivesAt p w s began lives = AreLivesOf (length w.log.entries) (ended_by p w) (stretches_from (if began then Some 0 else None) 0 w.log.entries s) lives
+LivesAt p w s began lives = AreLivesOf (length w.log.entries) (ended_by p w) (Extra p w s) (stretches_from (if began then Some 0 else None) 0 w.log.entries s) lives
 
 lives_by : (p : Setup) (w : World) (s : Side) → Good p w → (began : Bool) → runs (first_standing p.solo) s ≡ began
-    → LivesAt p w s began (if began then record first_life { next = (part w s).place } ∷ [] else [])
+    → LivesAt p w s began (if began then record first_life { next = own_place (part w s) } ∷ [] else [])
 lives_by p w s good true first =
-    let life : Life = record first_life { next = (part w s).place } in
+    let life : Life = record first_life { next = own_place (part w s) } in
     let stretch : Stretch = record { first = 0; last = end_of (lost_at w.log.entries s) } in
     let here : IsLife (length w.log.entries) (ended_by p w) stretch life =
     record { first = refl; how = refl; above = omega arith; next = next_by p w s good first (lost_at w.log.entries s) refl } in
-    subst (λ l. AreLivesOf (length w.log.entries) (ended_by p w) l (life ∷ [])) (sym (in_stretches p s 0 (first_ledger p) 0 w.log.entries good.log.same.lawful)) (here, tt)
+    subst (λ l. AreLivesOf (length w.log.entries) (ended_by p w) (Extra p w s) l (life ∷ [])) (sym (in_stretches p s 0 (first_ledger p) 0 w.log.entries good.log.same.lawful)) (here, tt)
 lives_by p w s good false first =
-    subst (λ l. AreLivesOf (length w.log.entries) (ended_by p w) l []) (sym (out_stretches p s (first_ledger p) 0 w.log.entries good.log.same.lawful)) tt
+    subst (λ l. AreLivesOf (length w.log.entries) (ended_by p w) (Extra p w s) l []) (sym (out_stretches p s (first_ledger p) 0 w.log.entries good.log.same.lawful)) tt
 
 -- the lives of a subsystem that stands where the pair says are those of its side
-side_lives : (p : Setup) (w : World) (s : Side) (lives : List Life) → Good p w → lives ≡ lives_of (part w s) → AreLives p.solo w.log.entries (ended_by p w) s lives
+side_lives : (p : Setup) (w : World) (s : Side) (lives : List Life) → Good p w → lives ≡ (part w s).lives → AreLives p.solo w.log.entries (ended_by p w) s lives
 side_lives p w s lives good is =
     let began = runs (first_standing p.solo) s in
-    let mine : lives ≡ (if began then record first_life { next = (part w s).place } ∷ [] else []) = is ∙ ap (λ b. if b then record first_life { next = (part w s).place } ∷ [] else []) (good.sides s).loaded in
+    let mine : lives ≡ (if began then record first_life { next = own_place (part w s) } ∷ [] else []) = is ∙ (good.sides s).lives in
     subst (λ l. LivesAt p w s began l) (sym mine) (lives_by p w s good began refl)
 
 -- the side is not cut as the visit reads it
@@ -158,21 +162,20 @@ side_of p w s sub good at_own = record {
   lives = side_lives p w s sub.lives good at_own.lives;
   lasts = λ run uncut. (
       let alive = ((good.sides s).running run).alive (up_by p w.log s (is_open p w.log) refl good.log uncut) in
-      stands_open p.program (answers_of (take (part w s).place w.log.entries)) sub.machine (at_own.machine alive).stands
+      stands_open p.program (answers_of (take (own_place (part w s)) w.log.entries)) sub.machine (at_own.machine alive).stands
       );
   machine = λ run on. (
       let stands = (at_own.machine (alive_by (part w s).alive sub.machine on at_own.idle)).stands in
-      let loaded : (part w s).loaded ≡ true = (good.sides s).loaded ∙ ran_first p s w.log.entries good.log.same.lawful run in
-      let place : place_of sub.lives ≡ (part w s).place = ap place_of at_own.lives ∙ ap (λ b. place_of (if b then record first_life { next = (part w s).place } ∷ [] else [])) loaded in
-      let taken : take (place_of sub.lives) (answers_of w.log.entries) ≡ answers_of (take (part w s).place w.log.entries) =
-      ap (λ k. take k (answers_of w.log.entries)) place ∙ take-map (λ (e : Entry). e.answer) (part w s).place w.log.entries in
+      let place : place_of sub.lives ≡ own_place (part w s) = ap place_of at_own.lives in
+      let taken : take (place_of sub.lives) (answers_of w.log.entries) ≡ answers_of (take (own_place (part w s)) w.log.entries) =
+      ap (λ k. take k (answers_of w.log.entries)) place ∙ take-map (λ (e : Entry). e.answer) (own_place (part w s)) w.log.entries in
       subst (λ l. Stands p.program l sub.machine) (sym taken) stands
       );
 }
 
 -- a run that has a tail is closed, and each side that runs has taken all entries
 ends_whole : (p : Setup) (w : World) (s : Side) (o : Option Ended) → Means p w o → HasTail (unwrap_or o Spent) → runs (standing_in p w.log) s ≡ true
-    → IsSameSide p w.log s (part w s) → (is_open p w.log ≡ false) × ((part w s).place ≡ length w.log.entries)
+    → IsSameSide p w.log s (part w s) → (is_open p w.log ≡ false) × (own_place (part w s) ≡ length w.log.entries)
 ends_whole p w s (Some End) m tail run h = (m.0, all_taken p w s m.3 m.4 run h)
 ends_whole p w s (Some (Stop code)) m tail run h = (m.0, all_taken p w s m.2 m.3 run h)
 ends_whole p w s (Some NoneLeft) m tail run h = absurd tail
@@ -186,4 +189,4 @@ pub last_stands : (p : Setup) (w : World) (s : Side) (sub : Part) → Good p w �
 last_stands p w s sub good tail run at_own =
     let whole = ends_whole p w s (ended p w) (ended_means p w) tail run (good.sides s) in
     let alive = ((good.sides s).running run).alive (up_closed p w.log s whole.0) in
-    subst (λ es. StandsAfter p.program es sub.machine) (take_all w.log.entries (part w s).place whole.1) (at_own.machine alive)
+    subst (λ es. StandsAfter p.program es sub.machine) (take_all w.log.entries (own_place (part w s)) whole.1) (at_own.machine alive)

@@ -11,20 +11,20 @@ use Rattle.s7_events.specs.declared.entry.Entry.{Entry}
 use Rattle.s7_base.specs.Blocks.{Program}
 use Rattle.mc_machine.specs.Meaning.{std, next_of, asked_after, takes, is_dated, stops_cpu}
 use Rattle.mc_machine.specs.Stands.{Running, CanAsk, CanTake, CanGoOn, IsTaken, GoesOn, WaitsAt, Stands, CpuWaits}
-use Rattle.subsystem.specs.declared.parts.Life.{Life}
-use Rattle.subsystem.specs.Part.{Part, first_life, TookOne}
+use Rattle.subsystem.specs.Part.{Part, TookOne}
 use Rattle.pair_core.specs.Setup.{Setup}
 use Rattle.pair_core.specs.Ledger.{Ledger, first_ledger, after, ledger_from, ledger}
-use Rattle.pair_core.specs.declared.own.Own.{Own}
+use Rattle.pair_core.specs.OwnParts.{OwnPart, own_place, taken_one, had_life}
 use Rattle.pair_core.specs.Lawful.{MayStand, LawfulFrom}
 use Rattle.pair_core.specs.Stops.{stop_by, stop_of}
 use Rattle.pair_core.specs.Played.{requests_of, answers_of}
 use Rattle.pair_core.specs.declared.sides.Sides.{Sides}
-use Rattle.pair_core.specs.World.{Log, taken_one}
+use Rattle.pair_core.specs.World.{Log}
 use Rattle.pair_core.specs.Sides.{of_side, with_side}
-use Rattle.pair_core.specs.Places.{lives_of, IsAt}
+use Rattle.pair_core.specs.Places.{IsAt}
 use Rattle.pair_core.specs.Good.{GoodLog}
 use Rattle.pair_core.proofs.Lasts.{stop_snoc}
+use Rattle.pair_core.proofs.OwnParts.{own_longer, life_longer}
 use Rattle.pair_core.proofs.Snoc.{stop_is, moment_is, answers_snoc}
 use Rattle.pair_core.proofs.Answers.{lawful_takes, lawful_dated, not_stopping}
 
@@ -89,64 +89,51 @@ can_go_on None request answer waits on = absurd waits
 can_go_on (Some running) request answer waits on = subst (λ o. GoesOn o answer) (sym waits) on
 
 -- a subsystem that stands where its part says can be asked
-pub can_ask_at : (program : Program) (own : Own) (es : List Entry) (s : Part) → IsAt program own es s → own.alive ≡ true → stop_of (take own.place es) ≡ None → CanAsk s.machine
+pub can_ask_at : (program : Program) (own : OwnPart) (es : List Entry) (s : Part) → IsAt program own es s → own.alive ≡ true → stop_of (take (own_place own) es) ≡ None → CanAsk s.machine
 can_ask_at program own es s at_old alive going = (at_old.machine alive).going going
 
-pub stands_at : (program : Program) (own : Own) (es : List Entry) (s : Part) → IsAt program own es s → own.alive ≡ true → Stands program (answers_of (take own.place es)) s.machine
+pub stands_at : (program : Program) (own : OwnPart) (es : List Entry) (s : Part) → IsAt program own es s → own.alive ≡ true → Stands program (answers_of (take (own_place own) es)) s.machine
 stands_at program own es s at_old alive = (at_old.machine alive).stands
 
 -- the machine waits at the request that the CPU makes
-pub asked_same : (program : Program) (own : Own) (es : List Entry) (s new : Part) (request asks : Request)
+pub asked_same : (program : Program) (own : OwnPart) (es : List Entry) (s new : Part) (request asks : Request)
     → IsAt program own es s → own.alive ≡ true
-    → (Stands program (answers_of (take own.place es)) s.machine → CpuWaits program (answers_of (take own.place es)) asks new.machine)
-    → next_of (std program (answers_of (take own.place es))) ≡ Some request → asks ≡ request
+    → (Stands program (answers_of (take (own_place own) es)) s.machine → CpuWaits program (answers_of (take (own_place own) es)) asks new.machine)
+    → next_of (std program (answers_of (take (own_place own) es))) ≡ Some request → asks ≡ request
 asked_same program own es s new request asks at_old alive next is =
-    let mine : next_of (std program (answers_of (take own.place es))) ≡ Some asks = waits_next program (answers_of (take own.place es)) asks new.machine (next (stands_at program own es s at_old alive)) in
+    let mine : next_of (std program (answers_of (take (own_place own) es))) ≡ Some asks = waits_next program (answers_of (take (own_place own) es)) asks new.machine (next (stands_at program own es s at_old alive)) in
     cc
 
 -- a machine that waits at the record's request takes the record's answer
-pub takes_next : (program : Program) (own : Own) (es : List Entry) (s new : Part) (request asks : Request) (answer : Answer)
+pub takes_next : (program : Program) (own : OwnPart) (es : List Entry) (s new : Part) (request asks : Request) (answer : Answer)
     → IsAt program own es s → own.alive ≡ true → WaitsAt new.machine asks
-    → (Stands program (answers_of (take own.place es)) s.machine → CpuWaits program (answers_of (take own.place es)) asks new.machine)
-    → next_of (std program (answers_of (take own.place es))) ≡ Some request → takes request answer ≡ true → CanTake new.machine answer
+    → (Stands program (answers_of (take (own_place own) es)) s.machine → CpuWaits program (answers_of (take (own_place own) es)) asks new.machine)
+    → next_of (std program (answers_of (take (own_place own) es))) ≡ Some request → takes request answer ≡ true → CanTake new.machine answer
 takes_next program own es s new request asks answer at_old alive waits next is fits =
     let same : asks ≡ request = asked_same program own es s new request asks at_old alive next is in
     can_take new.machine asks answer waits (subst (λ r. takes r answer ≡ true) (sym same) fits)
 
--- the lives ----------------------------------------------------------------
-
-one_front : (front : List Life) (x y : Life) → y ∷ [] ≡ front ++ x ∷ [] → (front ≡ []) × (x ≡ y)
-one_front [] x y h = (refl, cc)
-one_front (z ∷ []) x y h = absurd (let n : [] ≡ x ∷ [] = cc in cc)
-one_front (z ∷ w ∷ front) x y h = absurd (let n : [] ≡ w ∷ (front ++ x ∷ []) = cc in cc)
-
--- a side that began by a load has its one life longer by one entry
-life_longer : (own : Own) (old new : List Life) → own.loaded ≡ true → old ≡ lives_of own → TookOne old new → new ≡ lives_of (taken_one own)
-life_longer own old new loaded is took =
-    let mine : record first_life { next = own.place } ∷ [] ≡ took.front ++ took.life ∷ [] = (rw loaded at (sym is)) ∙ took.before in
-    let split = one_front took.front took.life (record first_life { next = own.place }) mine in
-    rw loaded (took.now ∙ ap (λ front. front ++ record (took.life) { next = took.life.next + 1 } ∷ []) split.0 ∙ ap (λ (life : Life). record life { next = life.next + 1 } ∷ []) split.1)
-
 -- an entry is taken --------------------------------------------------------
 
 -- a side that has taken an entry stands behind it
-pub took : (program : Program) (own : Own) (before fs : List Entry) (e : Entry) (mid new : Part) (request : Request)
-    → own.alive ≡ true → own.loaded ≡ true → mid.lives ≡ lives_of own → WaitsAt mid.machine request → request ≡ e.request
-    → take (own.place + 1) fs ≡ before ++ e ∷ []
+pub took : (program : Program) (own : OwnPart) (before fs : List Entry) (e : Entry) (mid new : Part) (request : Request)
+    → own.alive ≡ true → had_life own.lives ≡ true → mid.lives ≡ own.lives → WaitsAt mid.machine request → request ≡ e.request
+    → take (own_place own + 1) fs ≡ before ++ e ∷ []
     → TookOne mid.lives new.lives → (CanGoOn mid.machine e.answer → CanAsk new.machine) → Stands program (answers_of before ++ e.answer ∷ []) new.machine
     → IsAt program (taken_one own) fs new
-took program own before fs e mid new request alive loaded lives waits asks more longer going stands = record {
-  lives = life_longer own mid.lives new.lives loaded lives longer;
-  idle = λ off. absurd cc;
-  machine = λ on. record {
-    stands = subst (λ l. Stands program l new.machine) (sym (ap answers_of more ∙ answers_snoc before e)) stands;
-    going = λ free. (
-        let none : stop_by e.request.ask e.answer ≡ None = sym (stop_snoc None before e) ∙ ap stop_of (sym more) ∙ free in
-        let mine : stops_cpu request.ask e.answer ≡ false = ap (λ r. stops_cpu r.ask e.answer) asks ∙ not_stopping e.request.ask e.answer none in
-        going (can_go_on mid.machine request e.answer waits mine)
-        );
-  };
-}
+took program own before fs e mid new request alive had lives waits asks more longer going stands =
+    let here : take (own_place (taken_one own)) fs ≡ before ++ e ∷ [] = ap (λ k. take k fs) (own_longer own had) ∙ more in record {
+      lives = life_longer own.lives mid.lives new.lives lives longer;
+      idle = λ off. absurd cc;
+      machine = λ on. record {
+        stands = subst (λ l. Stands program l new.machine) (sym (ap answers_of here ∙ answers_snoc before e)) stands;
+        going = λ free. (
+            let none : stop_by e.request.ask e.answer ≡ None = sym (stop_snoc None before e) ∙ ap stop_of (sym here) ∙ free in
+            let mine : stops_cpu request.ask e.answer ≡ false = ap (λ r. stops_cpu r.ask e.answer) asks ∙ not_stopping e.request.ask e.answer none in
+            going (can_go_on mid.machine request e.answer waits mine)
+            );
+      };
+    }
 
 pub answers_length : (es : List Entry) (k : ℕ) → k ≤ length es → length (answers_of (take k es)) ≡ k
 answers_length es k few = length-map (take k es) (λ (x : Entry). x.answer) ∙ length-take-le k es few
@@ -157,34 +144,31 @@ take_next es k e here =
     let within = slice_get_within es k e here in
     take_more es k e within ∙ ap (λ (x : Entry). take k es ++ x ∷ []) (get_or_from_slice_get es k e e here)
 
-part_put : (parts : Sides Own) (side : Side) (own : Own) → of_side (with_side parts side own) side ≡ own
+part_put : (parts : Sides OwnPart) (side : Side) (own : OwnPart) → of_side (with_side parts side own) side ≡ own
 part_put parts A own = refl
 part_put parts B own = refl
 
--- what is kept of a side that has taken an entry
-pub put_taken : (parts new : Sides Own) (side : Side) (own : Own) (program : Program) (es : List Entry) (s : Part) → own ≡ of_side parts side
-    → new ≡ with_side parts side (record own { place = own.place + 1 })
-    → IsAt program (taken_one (of_side parts side)) es s → IsAt program (of_side new side) es s
-put_taken parts new side own program es s is put h =
-    let same : of_side new side ≡ taken_one (of_side parts side) = ap (λ ps. of_side ps side) put ∙ (part_put parts side (record own { place = own.place + 1 }) ∙ ap taken_one is) in
+-- a subsystem stands where the part of a side that has taken an entry says
+pub put_taken : (parts new : Sides OwnPart) (side : Side) (program : Program) (es : List Entry) (s : Part)
+    → new ≡ with_side parts side (taken_one (of_side parts side)) → IsAt program (taken_one (of_side parts side)) es s → IsAt program (of_side new side) es s
+put_taken parts new side program es s put h =
+    let same : of_side new side ≡ taken_one (of_side parts side) = ap (λ ps. of_side ps side) put ∙ part_put parts side (taken_one (of_side parts side)) in
     subst (λ o. IsAt program o es s) (sym same) h
 
 -- a side that has appended an entry, and taken it, stands behind it
-pub put_added : (program now : Program) (parts mid new : Sides Own) (side : Side) (own : Own) (n : ℕ) (es all : List Entry) (e : Entry) (s : Part)
-    → now ≡ program → all ≡ es ++ e ∷ [] → mid ≡ parts → own ≡ of_side parts side → n ≡ own.place
-    → new ≡ with_side mid side (record own { place = n + 1 })
+pub put_added : (program now : Program) (parts mid new : Sides OwnPart) (side : Side) (es all : List Entry) (e : Entry) (s : Part)
+    → now ≡ program → all ≡ es ++ e ∷ [] → mid ≡ parts → new ≡ with_side mid side (taken_one (of_side mid side))
     → IsAt program (taken_one (of_side parts side)) (es ++ e ∷ []) s → IsAt now (of_side new side) all s
-put_added program now parts mid new side own n es all e s same longer kept is count put h =
+put_added program now parts mid new side es all e s same longer kept put h =
     rw (same, longer)
-    (put_taken parts new side own program (es ++ e ∷ []) s is
-    (put ∙ ap (λ q. with_side q side (record own { place = n + 1 })) kept ∙ ap (λ k. with_side parts side (record own { place = k + 1 })) count) h)
+    (put_taken parts new side program (es ++ e ∷ []) s (put ∙ ap (λ (q : Sides OwnPart). with_side q side (taken_one (of_side q side))) kept) h)
 
 -- all entries and the one that was added
 pub take_added : (es : List Entry) (k : ℕ) (e : Entry) → k ≡ length es → take (k + 1) (es ++ e ∷ []) ≡ es ++ e ∷ []
 take_added es k e here = take_all (k + 1) (es ++ e ∷ []) (omega (arith, here, length-append es (e ∷ [])))
 
 -- what stands for a program after the entries of a place stands after all of them where the place is their end
-pub stands_all : (program : Program) (own : Own) (es : List Entry) (s : Part) → IsAt program own es s → own.alive ≡ true → own.place ≡ length es → Stands program (answers_of es) s.machine
+pub stands_all : (program : Program) (own : OwnPart) (es : List Entry) (s : Part) → IsAt program own es s → own.alive ≡ true → own_place own ≡ length es → Stands program (answers_of es) s.machine
 stands_all program own es s at_old alive here =
-    let all : take own.place es ≡ es = take_all own.place es (omega (arith, here)) in
+    let all : take (own_place own) es ≡ es = take_all (own_place own) es (omega (arith, here)) in
     subst (λ l. Stands program (answers_of l) s.machine) all (stands_at program own es s at_old alive)

@@ -1,5 +1,6 @@
 -- A visit of a good world can be done, and leaves a good world; the first world is good.
-use Rattle.std.proofs.Common.{◌≡◌, ℕ, ◌+◌, true, List, [], refl, sym, subst, arith, inl, is_some}
+use Rattle.std.proofs.Common.{◌≡◌, ℕ, ◌+◌, Bool, true, not, List, [], Option, None, refl, sym, subst, arith, inl, is_some}
+use Rattle.pair_core.specs.OwnParts.{OwnPart, first_part}
 use Rattle.s7_events.specs.declared.entry.Side.{Side}
 use Rattle.s7_events.specs.declared.entry.Side.TheVariants.{A, B}
 use Rattle.s7_events.specs.declared.entry.Entry.{Entry}
@@ -10,6 +11,7 @@ use Rattle.pair_core.specs.Kept.{CanAct}
 use Rattle.pair_core.specs.Good.{Good, IsSameSide}
 use Rattle.pair_core.proofs.Keeps.{keeps_chosen}
 use Rattle.pair_core.proofs.Overs.{over_kept}
+use Rattle.pair_core.proofs.OwnParts.{first_place, first_lives}
 
 pub can_visit : (p : Setup) (w : World) (s : Side) → IsPlan p.plan → Good p w → CanAct p w s (choose p w s)
 can_visit p w s fine good = (keeps_chosen p w s fine good).can
@@ -20,8 +22,8 @@ keeps p w s fine good =
     record { log = h.log; sides = h.sides; taken = h.taken; over = over_kept p w s good.over }
 
 first_side : (p : Setup) (s : Side) → IsSameSide p (first_world p.solo).log s (part (first_world p.solo) s)
-first_side p A = record { few = omega arith; loaded = refl; lost = λ j h. absurd cc; running = λ run. record { near = omega arith; alive = λ up. refl } }
-first_side p B = record { few = omega arith; loaded = refl; lost = λ j h. absurd cc; running = λ run. record { near = omega arith; alive = λ up. run } }
+first_side p A = record { few = omega arith; lives = refl; lost = λ j h. absurd cc; running = λ run. record { near = omega arith; alive = λ up. refl } }
+first_side p B = record { few = omega (arith, first_place (not p.solo)); lives = first_lives (not p.solo); lost = λ j h. absurd cc; running = λ run. record { near = omega arith; alive = λ up. run } }
 
 pub good_first : (p : Setup) → IsPlan p.plan → Good p (first_world p.solo)
 good_first p fine = record {
@@ -35,8 +37,10 @@ good_first p fine = record {
 }
 
 -- a world that begins with no entry and no showing is the first one
-pub good_begun : (p : Setup) (es : List Entry) (shown : List (ℕ × Side)) → IsPlan p.plan → es ≡ [] → shown ≡ []
-    → Good p (record { log = record { entries = es; shown = shown; marked = 0 }; parts = (first_world p.solo).parts })
-good_begun p es shown fine none unshown =
-    subst (λ xs. Good p (record { log = record { entries = xs; shown = shown; marked = 0 }; parts = (first_world p.solo).parts })) (sym none)
-    (subst (λ xs. Good p (record { log = record { entries = []; shown = xs; marked = 0 }; parts = (first_world p.solo).parts })) (sym unshown) (good_first p fine))
+pub good_begun : (p : Setup) (w : World) → IsPlan p.plan → w ≡ first_world p.solo → Good p w
+good_begun p w fine is = subst (λ v. Good p v) (sym is) (good_first p fine)
+
+-- such a world
+pub begun : (solo : Bool) (es : List Entry) (shown : List (ℕ × Side)) (a b : OwnPart) → es ≡ [] → shown ≡ [] → a ≡ first_part true → b ≡ first_part (not solo)
+    → record { log = record { entries = es; shown = shown; marked = 0 }; parts = record { a = a; b = b }; back = None } ≡ first_world solo
+begun solo es shown a b none unshown first second = rw (none, unshown, first, second)

@@ -5,7 +5,7 @@ use Rattle.s7_events.specs.declared.entry.Loss.TheVariants.{Suspect}
 use Rattle.s7_events.specs.declared.entry.Answer.TheVariants.{Lost}
 use Rattle.s7_events.specs.declared.entry.Entry.{Entry}
 use Rattle.mc_machine.specs.Meaning.{asked}
-use Rattle.pair_core.specs.declared.own.Own.{Own}
+use Rattle.pair_core.specs.OwnParts.{OwnPart, own_place, only_life}
 use Rattle.pair_core.specs.Setup.{Setup}
 use Rattle.pair_core.specs.Ledger.{standing}
 use Rattle.pair_core.specs.Sides.{other_side, runs, first_standing}
@@ -75,19 +75,19 @@ pub record GoodLog (p : Setup) (l : Log) : Type 0 where
   pub shows : IsSameShown p l
 
 -- a side that runs has taken all entries, or all but the last; its life is open unless it is cut
-pub record IsRunningSide (p : Setup) (l : Log) (s : Side) (own : Own) : Type 0 where
-  pub near : length l.entries ≤ own.place + 1
+pub record IsRunningSide (p : Setup) (l : Log) (s : Side) (own : OwnPart) : Type 0 where
+  pub near : length l.entries ≤ own_place own + 1
   pub alive : is_down p l s ≡ false → own.alive ≡ true
 
 -- where a side is
-pub record IsSameSide (p : Setup) (l : Log) (s : Side) (own : Own) : Type 0 where
+pub record IsSameSide (p : Setup) (l : Log) (s : Side) (own : OwnPart) : Type 0 where
   -- it has not taken more entries than there are
-  pub few : own.place ≤ length l.entries
-  -- it began by a load exactly if it ran at first
-  pub loaded : own.loaded ≡ runs (first_standing p.solo) s
+  pub few : own_place own ≤ length l.entries
+  -- it has one life, which began by a load, exactly if it ran at first
+  pub lives : own.lives ≡ only_life (runs (first_standing p.solo) s) (own_place own)
   pub running : runs (standing_in p l) s ≡ true → IsRunningSide p l s own
   -- where it was lost it had taken all entries before that, or all but one
-  pub lost : (j : ℕ) → lost_at l.entries s ≡ Some j → IsNear own.place j
+  pub lost : (j : ℕ) → lost_at l.entries s ≡ Some j → IsNear (own_place own) j
 
 -- the last entry is the loss of a side for suspicion
 pub record EndsBySuspicion (es : List Entry) : Type 0 where
@@ -99,7 +99,7 @@ pub record EndsBySuspicion (es : List Entry) : Type 0 where
 
 -- where every side that runs has taken all entries but the last, a side was lost by that entry, which it appended itself
 abbrev pub LastIsTaken : Setup → World → Type 0
-LastIsTaken p w = ((s : Side) → runs (standing_in p w.log) s ≡ true → (part w s).place + 1 ≡ length w.log.entries) → EndsBySuspicion w.log.entries
+LastIsTaken p w = ((s : Side) → runs (standing_in p w.log) s ≡ true → own_place (part w s) + 1 ≡ length w.log.entries) → EndsBySuspicion w.log.entries
 
 -- a side was answered Over only once the run has ended
 abbrev pub OverIsEnded : Setup → World → Type 0

@@ -1,5 +1,5 @@
 -- What the fields of a pair stand for.
-use Rattle.std.specs.Prelude.{◌≡◌, ℕ, ◌≤◌, ◌*◌, ◌<◌, true, length}
+use Rattle.std.specs.Prelude.{◌≡◌, ℕ, ◌≤◌, ◌*◌, ◌<◌, true, length, None}
 use Rattle.s7_events.specs.declared.entry.Side.{Side}
 use Rattle.plant_script.specs.Plan.{Plan, IsPlan}
 use Rattle.plant_script.specs.InputImage.{Image, IsImageOf}
@@ -8,6 +8,7 @@ use Rattle.pair_core.specs.declared.turns.Act.TheVariants.{Over, Dead, Take, Sho
 use Rattle.pair_core.specs.declared.state.Derived.{Derived}
 use Rattle.pair_core.specs.declared.state.State.{State}
 use Rattle.pair_core.specs.Sides.{of_side}
+use Rattle.pair_core.specs.OwnParts.{own_place, had_life}
 use Rattle.pair_core.specs.CutsKept.{IsCutsAt}
 use Rattle.pair_core.specs.Setup.{Setup, made_for}
 use Rattle.pair_core.specs.Ledger.{ledger}
@@ -20,7 +21,7 @@ abbrev pub log_of : State → Log
 log_of s = record { entries = s.log.record.entries; shown = s.log.shown.list; marked = s.log.marked }
 
 abbrev pub world_of : State → World
-world_of s = record { log = log_of s; parts = s.parts }
+world_of s = record { log = log_of s; parts = s.parts; back = None }
 
 abbrev pub game_of : State → Game
 game_of s = record { setup = setup_of s; world = world_of s }
@@ -50,9 +51,9 @@ pub record IsKept (s : State) : Type 0 where
 abbrev pub CanAct : Setup → World → Side → Act → Type 0
 CanAct p w s (Over ending) = Unit {0}
 CanAct p w s Dead = Unit {0}
-CanAct p w s Take = ((part w s).alive ≡ true) × ((part w s).loaded ≡ true) × ((part w s).place < length w.log.entries)
+CanAct p w s Take = ((part w s).alive ≡ true) × (had_life (part w s).lives ≡ true) × (own_place (part w s) < length w.log.entries)
 CanAct p w s Show = (0 < length w.log.entries) × (length w.log.shown < 2 * p.plan.end)
 CanAct p w s Mark = 0 < length w.log.entries
 CanAct p w s Unmarked = 0 < length w.log.entries
 CanAct p w s Behind = Unit {0}
-CanAct p w s Append = ((part w s).alive ≡ true) × ((part w s).loaded ≡ true) × ((part w s).place ≡ length w.log.entries) × (is_open p w.log ≡ true)
+CanAct p w s Append = ((part w s).alive ≡ true) × (had_life (part w s).lives ≡ true) × (own_place (part w s) ≡ length w.log.entries) × (is_open p w.log ≡ true)

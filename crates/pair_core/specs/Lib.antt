@@ -10,9 +10,11 @@ pub mod Lives
 pub mod Losses
 pub mod Monitor
 pub mod OneRecord
+pub mod OwnParts
 pub mod Places
 pub mod Played
 pub mod Progress
+pub mod Returns
 pub mod Setup
 pub mod Showings
 pub mod Sides

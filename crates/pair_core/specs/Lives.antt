@@ -1,10 +1,10 @@
 -- The lives of a side: the stretches of the record in which it ran.
-use Rattle.std.specs.Prelude.{◌≡◌, ℕ, zero, suc, ◌+◌, ◌≤◌, Bool, if◌then◌else◌, List, [], ◌∷◌, ◌++◌, length, Option, Some, None}
+use Rattle.std.specs.Prelude.{◌≡◌, ℕ, zero, suc, ◌+◌, ◌≤◌, Bool, true, false, if◌then◌else◌, List, [], ◌∷◌, ◌++◌, length, Option, Some, None}
 use Rattle.s7_events.specs.declared.entry.Side.{Side}
 use Rattle.s7_events.specs.declared.entry.Loss.{Loss}
 use Rattle.s7_events.specs.declared.entry.Loss.TheVariants.{Failed, Suspect}
 use Rattle.s7_events.specs.declared.entry.Answer.{Answer}
-use Rattle.s7_events.specs.declared.entry.Answer.TheVariants.{Lost, Back}
+use Rattle.s7_events.specs.declared.entry.Answer.TheVariants.{Lost, Back, Hold}
 use Rattle.s7_events.specs.declared.entry.Entry.{Entry}
 use Rattle.pair_core.specs.declared.endings.Ended.{Ended}
 use Rattle.pair_core.specs.declared.endings.Ended.TheVariants.{End, Stop, NoneLeft, Spent, NotPlayed}
@@ -57,9 +57,13 @@ stretches_from began k [] side = closing began with_run
 stretches_from began k (e ∷ es) side =
     ends_by began k (change_of e.answer side) ++ stretches_from (began_after began k (change_of e.answer side)) (k + 1) es side
 
+-- the stretch in which a side runs at first begins with entry 0
+abbrev pub first_stretch : Bool → Side → Option ℕ
+first_stretch solo side = if runs (first_standing solo) side then Some 0 else None
+
 -- the stretches of a side in a record: from 0, where it ran at first, and from each entry by which it came back
 abbrev pub stretches : Bool → List Entry → Side → List Stretch
-stretches solo es side = stretches_from (if runs (first_standing solo) side then Some 0 else None) 0 es side
+stretches solo es side = stretches_from (first_stretch solo side) 0 es side
 
 -- at the end of the run all entries were taken, or, by none and spent, all but one
 abbrev pub EndsAt : ℕ → Ended → ℕ → Type 0
@@ -86,14 +90,43 @@ pub record IsLife (n : ℕ) (ended : Ended) (stretch : Stretch) (life : Life) : 
   pub above : life.first ≤ life.next
   pub next : IsNext n ended stretch.last life.next
 
-abbrev pub AreLivesOf : ℕ → Ended → List Stretch → List Life → Type 0
-AreLivesOf n ended [] [] = Unit {0}
-AreLivesOf n ended (stretch ∷ stretches) (life ∷ lives) = IsLife n ended stretch life × AreLivesOf n ended stretches lives
-AreLivesOf n ended _ _ = ⊥
+abbrev pub is_hold : Answer → Bool
+is_hold Hold = true
+is_hold answer = false
 
--- each stretch of the side has one life, in the same order
+abbrev pub is_held_from : Bool → List Entry → Bool
+is_held_from before [] = before
+is_held_from before (e ∷ es) = is_held_from (is_hold e.answer) es
+
+-- the last entry is a Hold
+abbrev pub is_held : List Entry → Bool
+is_held es = is_held_from false es
+
+-- where the stretch began in which the side runs after the entries
+abbrev pub open_from : Option ℕ → ℕ → List Entry → Side → Option ℕ
+open_from began k [] side = began
+open_from began k (e ∷ es) side = open_from (began_after began k (change_of e.answer side)) (k + 1) es side
+
+-- The life of a side that adopted the state and whose Back never came, since the visits were used up after a Hold of its return: it
+-- is empty, and begins where the record ends.
+pub record IsUnreturned (solo : Bool) (es : List Entry) (ended : Ended) (side : Side) (life : Life) : Type 0 where
+  pub how : life.how ≡ Adopted
+  pub first : life.first ≡ length es
+  pub empty : life.next ≡ life.first
+  pub held : is_held es ≡ true
+  pub out : open_from (first_stretch solo side) 0 es side ≡ None
+  pub spent : ended ≡ Spent
+
+-- each stretch has one life, in the same order; after them there may be an extra one
+abbrev pub AreLivesOf : ℕ → Ended → (Life → Type 0) → List Stretch → List Life → Type 0
+AreLivesOf n ended IsExtra [] [] = Unit {0}
+AreLivesOf n ended IsExtra [] (life ∷ []) = IsExtra life
+AreLivesOf n ended IsExtra (stretch ∷ stretches) (life ∷ lives) = IsLife n ended stretch life × AreLivesOf n ended IsExtra stretches lives
+AreLivesOf n ended IsExtra _ _ = ⊥
+
+-- each stretch of the side has one life, in the same order, and after them stands at most the life of a side whose Back never came
 abbrev pub AreLives : Bool → List Entry → Ended → Side → List Life → Type 0
-AreLives solo es ended side lives = AreLivesOf (length es) ended (stretches solo es side) lives
+AreLives solo es ended side lives = AreLivesOf (length es) ended (IsUnreturned solo es ended side) (stretches solo es side) lives
 
 -- one past the last entry that a side took, 0 before any life
 abbrev pub place_from : ℕ → List Life → ℕ

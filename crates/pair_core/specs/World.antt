@@ -14,7 +14,7 @@ use Rattle.pair_core.specs.declared.turns.Turn.{Turn}
 use Rattle.pair_core.specs.declared.turns.Turn.TheVariants as turns
 use Rattle.pair_core.specs.declared.turns.Act.{Act}
 use Rattle.pair_core.specs.declared.turns.Act.TheVariants.{Over, Dead, Take, Show, Mark, Unmarked, Behind, Append}
-use Rattle.pair_core.specs.declared.own.Own.{Own}
+use Rattle.pair_core.specs.OwnParts.{OwnPart, own_place, taken_one, first_part}
 use Rattle.pair_core.specs.declared.sides.Sides.{Sides}
 use Rattle.pair_core.specs.Setup.{Setup}
 use Rattle.pair_core.specs.Ledger.{ledger, standing}
@@ -26,6 +26,7 @@ use Rattle.pair_core.specs.Stops.{stop_of}
 use Rattle.pair_core.specs.Endings.{ends_by_output, may_grow}
 use Rattle.pair_core.specs.Played.{answers_of}
 use Rattle.pair_core.specs.Turns.{is_over}
+use Rattle.pair_core.specs.Returns.{Return}
 
 -- what both sides share: the record, the showings in their order, and one past the last output that is marked
 pub record Log : Type 0 where
@@ -33,13 +34,14 @@ pub record Log : Type 0 where
   pub shown : List (ℕ × Side)
   pub marked : ℕ
 
--- the log, and what is kept of each side
+-- the log, what is kept of each side, and the return that is under way, if one is
 pub record World : Type 0 where
   pub log : Log
-  pub parts : Sides Own
+  pub parts : Sides OwnPart
+  pub back : Option Return
 
 -- what is kept of one side
-abbrev pub part : World → Side → Own
+abbrev pub part : World → Side → OwnPart
 part w s = of_side w.parts s
 
 -- who runs after the record
@@ -78,7 +80,7 @@ is_left p l s = runs (standing_in p l) s && not (is_down p l s)
 
 -- the side runs, and has not taken all entries
 abbrev pub is_behind : Setup → World → Side → Bool
-is_behind p w s = runs (standing_in p w.log) s && nat_lt (part w s).place (length w.log.entries)
+is_behind p w s = runs (standing_in p w.log) s && nat_lt (own_place (part w s)) (length w.log.entries)
 
 -- the end of a run whose entries are all taken: by a stop; or full, once all outputs are marked
 abbrev pub end_by : Option StopCode → Bool → Option Ended
@@ -103,7 +105,7 @@ must_wait p l s = not (same_side s (standing_in p l).master) && not (is_down p l
 -- the other side runs, is not cut, and has not taken all entries
 abbrev pub waits_for_other : Setup → World → Side → Bool
 waits_for_other p w s =
-    runs (standing_in p w.log) (other_side s) && not (is_down p w.log (other_side s)) && nat_lt (part w (other_side s)).place (length w.log.entries)
+    runs (standing_in p w.log) (other_side s) && not (is_down p w.log (other_side s)) && nat_lt (own_place (part w (other_side s))) (length w.log.entries)
 
 -- what a visit does with a side that runs and has taken all entries
 abbrev pub when_taken : Setup → World → Side → Act
@@ -116,7 +118,7 @@ unfoldable pub choose : Setup → World → Side → Act
 choose p w s =
     unless_over (ended p w)
     (if is_down p w.log s || not (runs (standing_in p w.log) s) then Dead
-    else (if nat_lt (part w s).place (length w.log.entries) then Take else when_taken p w s))
+    else (if nat_lt (own_place (part w s)) (length w.log.entries) then Take else when_taken p w s))
 
 -- the new world, and the answer to the visitor
 pub record Stepped : Type 0 where
@@ -144,29 +146,25 @@ with_shown l s = record l { shown = l.shown ++ (length l.entries - 1, s) ∷ [] 
 abbrev pub with_marked : Log → Log
 with_marked l = record l { marked = length l.entries }
 
--- one entry more is taken
-abbrev pub taken_one : Own → Own
-taken_one own = record own { place = own.place + 1 }
-
-abbrev pub with_own : World → Side → Own → World
+abbrev pub with_own : World → Side → OwnPart → World
 with_own w s own = record w { parts = with_side w.parts s own }
 
 -- the side appends the entry and takes it; where none may come, which no visit meets, nothing is done
 abbrev pub appended : World → Side → Option Entry → Stepped
 appended w s None = record { world = w; answer = turns.Dead }
 appended w s (Some e) = record {
-  world = record { log = with_entry w.log e; parts = with_side w.parts s (taken_one (part w s)) };
+  world = record w { log = with_entry w.log e; parts = with_side w.parts s (taken_one (part w s)) };
   answer = turns.Answered (length w.log.entries);
 }
 
 abbrev pub acted : Setup → World → Side → Act → Stepped
 acted p w s (Over ending) = record { world = with_own w s (record (part w s) { over = true }); answer = turns.Over ending }
 acted p w s Dead = record { world = with_own w s (record (part w s) { alive = false }); answer = turns.Dead }
-acted p w s Take = record { world = with_own w s (taken_one (part w s)); answer = turns.Answered (part w s).place }
+acted p w s Take = record { world = with_own w s (taken_one (part w s)); answer = turns.Answered (own_place (part w s)) }
 acted p w s Show = record { world = record w { log = with_shown w.log s }; answer = turns.Show (length w.log.entries - 1) }
 acted p w s Mark = record { world = record w { log = with_marked w.log }; answer = turns.Marked (length w.log.entries - 1) }
 acted p w s Unmarked = record { world = w; answer = turns.NotYet (reasons.Unmarked (length w.log.entries - 1)) }
-acted p w s Behind = record { world = w; answer = turns.NotYet (reasons.Behind (part w (other_side s)).place) }
+acted p w s Behind = record { world = w; answer = turns.NotYet (reasons.Behind (own_place (part w (other_side s)))) }
 acted p w s Append = appended w s (next_entry p w.log)
 
 -- one visit of a side
@@ -183,12 +181,9 @@ pub record Game : Type 0 where
   pub setup : Setup
   pub world : World
 
--- a side before its first visit: it runs from a load, or it does not run
-abbrev pub first_part : Bool → Own
-first_part loaded = record { loaded = loaded; place = 0; alive = loaded; over = false }
-
 abbrev pub first_world : Bool → World
 first_world solo = record {
   log = record { entries = []; shown = []; marked = 0 };
   parts = record { a = first_part true; b = first_part (not solo) };
+  back = None;
 }

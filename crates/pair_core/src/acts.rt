@@ -11,7 +11,7 @@ ghost use Rattle.pair_core.specs.Places.{IsAt};
 ghost use Rattle.pair_core.specs.Good.{GoodLog};
 
 use crate::monitor::{is_overdue, watch_by};
-use crate::own::Own;
+use crate::own::{end_life, note_over, place_of, take_one};
 use crate::sides::other;
 use crate::state::{State, plain_answer};
 use crate::turns::Act;
@@ -124,18 +124,11 @@ impl State {
         ensures kept { IsKept self.new }
         ensures at { IsAt self.new.setup.program (of_side self.new.parts side) self.new.log.record.entries sub.new }
     {
-        let own = self.parts.of(side);
-        let moment = own.place;
+        let moment = place_of(&self.parts, side);
         let entry = self.entry_at(moment);
         sub.ask();
         sub.take(&entry.answer, u64::from(moment));
-        self.parts.put(
-            side,
-            Own {
-                place: moment + 1,
-                ..own
-            },
-        );
+        take_one(&mut self.parts, side);
         Turn::Answered(moment)
     }
 
@@ -156,15 +149,8 @@ impl State {
         let request = sub.ask();
         let answer = self.answer(&request.ask);
         sub.take(&answer, u64::from(moment));
-        let own = self.parts.of(side);
         self.add(Entry { request, answer });
-        self.parts.put(
-            side,
-            Own {
-                place: moment + 1,
-                ..own
-            },
-        );
+        take_one(&mut self.parts, side);
         Turn::Answered(moment)
     }
 
@@ -179,14 +165,7 @@ impl State {
         ensures at { IsAt self.new.setup.program (of_side self.new.parts side) self.new.log.record.entries sub.new }
     {
         sub.cut();
-        let own = self.parts.of(side);
-        self.parts.put(
-            side,
-            Own {
-                alive: false,
-                ..own
-            },
-        );
+        end_life(&mut self.parts, side);
         Turn::Dead
     }
 
@@ -206,8 +185,7 @@ impl State {
     {
         match act {
             Act::Over(ended) => {
-                let own = self.parts.of(side);
-                self.parts.put(side, Own { over: true, ..own });
+                note_over(&mut self.parts, side);
                 Turn::Over(ended)
             }
             Act::Dead => self.end_life(side, sub),
@@ -218,7 +196,7 @@ impl State {
                 Turn::Marked(self.len() - 1)
             }
             Act::Unmarked => Turn::NotYet(Reason::Unmarked(self.len() - 1)),
-            Act::Behind => Turn::NotYet(Reason::Behind(self.parts.of(other(side)).place)),
+            Act::Behind => Turn::NotYet(Reason::Behind(place_of(&self.parts, other(side)))),
             Act::Append => self.append(side, sub),
         }
     }

@@ -3,7 +3,7 @@ ghost use Rattle.std.specs.Prelude.{Bool, List};
 ghost use Rattle.s7_events.specs.declared.entry.Entry.{Entry};
 ghost use Rattle.s7_base.specs.Blocks.{Program};
 ghost use Rattle.subsystem.specs.Part.{Part};
-ghost use Rattle.pair_core.specs.declared.own.Own.{Own};
+ghost use Rattle.pair_core.specs.OwnParts.{OwnPart};
 ghost use Rattle.pair_core.specs.Places.{LoadedStands, NewStands, AskedStands};
 ghost use Rattle.plant_script.specs.Plan.{Plan};
 ghost use Rattle.pair_core.specs.OneRecord.{OneBegins};
@@ -19,7 +19,7 @@ pub fn begins()
 /// A subsystem that was asked stands where it stood, for whatever part and entries.
 #[tactic(auto, using(crate::proofs::Stands::asked_stands))]
 pub fn asking_stays()
-    ensures { (own : Own) (es : List Entry) (program : Program) (old new : Part) → AskedStands own es program old new }
+    ensures { (own : OwnPart) (es : List Entry) (program : Program) (old new : Part) → AskedStands own es program old new }
 {}
 
 /// Of two records of one program and one script, whose requests are the standard CPU's and whose answers are lawful,

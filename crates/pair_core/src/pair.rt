@@ -67,17 +67,8 @@ impl Pair {
         let program = blocks.copy(alloc)?;
         let log = Record::with_room(alloc, end)?;
         let shown = Shown::with_room(alloc, 2 * end)?;
-        let first = Own {
-            loaded: true,
-            place: 0,
-            alive: true,
-            over: false,
-        };
-        let second = Own {
-            loaded: !solo,
-            alive: !solo,
-            ..first
-        };
+        let first = Own::at_start(true);
+        let second = Own::at_start(!solo);
         Ok(Pair {
             state: State {
                 setup: Setup {

@@ -5,7 +5,7 @@ ghost use Rattle.pair_core.specs.Sides.{same_side, other_side, of_side, with_sid
 use s7_base::Side;
 
 /// One of each side.
-#[derive(Clone, Copy, Debug, PartialEq, Eq)]
+#[derive(Clone, Copy, Debug, Drop, PartialEq, Eq)]
 pub struct Sides<T> {
     pub a: T,
     pub b: T,

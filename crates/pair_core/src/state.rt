@@ -9,12 +9,13 @@ ghost use Rattle.pair_core.specs.Endings.{ends_by_output};
 ghost use Rattle.pair_core.specs.Lawful.{plain_answer};
 ghost use Rattle.pair_core.specs.World.{is_open, is_pending, has_shown, is_down, is_left, is_behind, end_by, ended, must_wait, waits_for_other, choose, acted, standing_in, with_entry};
 ghost use Rattle.pair_core.specs.Sides.{of_side};
+ghost use Rattle.pair_core.specs.OwnParts.{own_place};
 ghost use Rattle.pair_core.specs.Kept.{setup_of, log_of, world_of, IsKept, IsImageBefore, CanAct};
 ghost use Rattle.pair_core.specs.Places.{IsAt};
 ghost use Rattle.pair_core.specs.Good.{GoodLog};
 
 use crate::cuts::Cuts;
-use crate::own::Own;
+use crate::own::{Own, place_of};
 use crate::sides::{Sides, is_same, other};
 use crate::standing::Standing;
 use crate::turns::Act;
@@ -200,9 +201,9 @@ impl State {
 
     /// Whether the side has not taken all entries.
     fn is_late_with_entries(&self, side: Side) -> bool
-        ensures { result ≡ nat_lt (of_side self.now.parts side).place (length self.now.log.record.entries) }
+        ensures { result ≡ nat_lt (own_place (of_side self.now.parts side)) (length self.now.log.record.entries) }
     {
-        self.parts.of(side).place < self.len()
+        place_of(&self.parts, side) < self.len()
     }
 
     /// Whether the side runs and has not taken all entries.

@@ -1,13 +1,13 @@
-use Rattle.std.proofs.Common.{◌≡◌, ◌∙◌, ◌*◌, [], length, ap, sym, subst, arith}
+use Rattle.std.proofs.Common.{◌≡◌, ◌∙◌, ◌*◌, [], length, None, ap, sym, subst, arith}
 use Rattle.s7_events.specs.declared.entry.Side.TheVariants.{A, B}
 use Rattle.pair_core.specs.Setup.{Setup}
 use Rattle.pair_core.specs.Ledger.{ledger, standing}
 use Rattle.pair_core.specs.CutsKept.{IsCutsAt}
 use Rattle.pair_core.specs.Sides.{of_side}
-use Rattle.pair_core.specs.World.{shown_past, first_world}
+use Rattle.pair_core.specs.World.{World, shown_past, first_world}
 use Rattle.pair_core.specs.Progress.{IsAlone}
 use Rattle.pair_core.proofs.Snoc.{moment_is}
-use Rattle.pair_core.proofs.Visits.{good_begun}
+use Rattle.pair_core.proofs.Visits.{begun, good_begun}
 use Rattle.pair_core.proofs.Progress.{alone_first}
 use Rattle.pair_core.proofs.pair.Pair.new.Goals as goal
 
@@ -30,21 +30,27 @@ invariant_of-result c =
         room = ap (λ l. l.room) c.in_ok-log.ensures ∙ c.end-end.ensures.value;
         shown_room = ap (λ l. l.room) c.in_ok-shown.ensures ∙ ap (λ n. 2 * n) c.end-end.ensures.value;
       },
-      good_begun setup c.in_ok-log.log.entries c.in_ok-shown.shown.list c.end-end.ensures.form none unshown,
+      good_begun setup _ c.end-end.ensures.form
+          (begun c.args.solo c.in_ok-log.log.entries c.in_ok-shown.shown.list c.at_start-first.result c.at_start-second.result none unshown c.at_start-first.ensures c.at_start-second.ensures),
     )
+
+pub returns-clause-world : goal.returns-clause-world
+returns-clause-world c =
+    begun c.args.solo c.in_ok-log.log.entries c.in_ok-shown.shown.list c.at_start-first.result c.at_start-second.result
+    (ap (λ l. l.entries) c.in_ok-log.ensures) (ap (λ l. l.list) c.in_ok-shown.ensures) c.at_start-first.ensures c.at_start-second.ensures
 
 pub returns-clause-good : goal.returns-clause-good
 returns-clause-good c =
-    let none : c.in_ok-log.log.entries ≡ [] = ap (λ l. l.entries) c.in_ok-log.ensures in
-    let unshown : c.in_ok-shown.shown.list ≡ [] = ap (λ l. l.list) c.in_ok-shown.ensures in
     let setup : Setup = record { program = c.in_ok-program.program; plan = c.args.script; solo = c.args.solo } in
-    good_begun setup c.in_ok-log.log.entries c.in_ok-shown.shown.list c.end-end.ensures.form none unshown
+    good_begun setup _ c.end-end.ensures.form
+    (begun c.args.solo c.in_ok-log.log.entries c.in_ok-shown.shown.list c.at_start-first.result c.at_start-second.result
+    (ap (λ l. l.entries) c.in_ok-log.ensures) (ap (λ l. l.list) c.in_ok-shown.ensures) c.at_start-first.ensures c.at_start-second.ensures)
 
 pub returns-clause-alone : goal.returns-clause-alone
 returns-clause-alone c = λ alone.
-    let none : c.in_ok-log.log.entries ≡ [] = ap (λ l. l.entries) c.in_ok-log.ensures in
-    let unshown : c.in_ok-shown.shown.list ≡ [] = ap (λ l. l.list) c.in_ok-shown.ensures in
     let setup : Setup = record { program = c.in_ok-program.program; plan = c.args.script; solo = c.args.solo } in
-    subst (λ es. IsAlone setup (record { log = record { entries = es; shown = c.in_ok-shown.shown.list; marked = 0 }; parts = (first_world c.args.solo).parts }) 0) (sym none)
-    (subst (λ xs. IsAlone setup (record { log = record { entries = []; shown = xs; marked = 0 }; parts = (first_world c.args.solo).parts }) 0) (sym unshown)
-    (alone_first setup alone))
+    subst (λ (w : World). IsAlone setup w 0)
+    (sym
+    (begun c.args.solo c.in_ok-log.log.entries c.in_ok-shown.shown.list c.at_start-first.result c.at_start-second.result
+    (ap (λ l. l.entries) c.in_ok-log.ensures) (ap (λ l. l.list) c.in_ok-shown.ensures) c.at_start-first.ensures c.at_start-second.ensures))
+    (alone_first setup alone)

@@ -1,14 +1,16 @@
-use Rattle.std.proofs.Common.{◌≡◌, ◌∙◌, ◌++◌, ◌∷◌, [], true, length, refl, sym, ap, subst}
+use Rattle.std.proofs.Common.{◌≡◌, ◌∙◌, ◌++◌, ◌∷◌, [], true, length, refl, sym, ap, subst, arith}
 use Rattle.std.proofs.lemmas.List.{length-map}
 use Rattle.s7_events.specs.declared.entry.Entry.{Entry}
 use Rattle.mc_machine.specs.Meaning.{is_dated}
 use Rattle.pair_core.specs.Played.{answers_of}
 use Rattle.pair_core.specs.Ledger.{ledger}
+use Rattle.pair_core.specs.OwnParts.{own_place}
 use Rattle.pair_core.specs.Sides.{of_side}
 use Rattle.pair_core.specs.Kept.{setup_of, log_of}
 use Rattle.pair_core.proofs.Answers.{lawful_takes, lawful_dated}
 use Rattle.pair_core.proofs.Snoc.{moment_is}
 use Rattle.pair_core.proofs.Opens.{going_at, open_room}
+use Rattle.pair_core.proofs.OwnParts.{last_next}
 use Rattle.pair_core.proofs.Taking.{can_ask_at, can_take, stands_all, take_added, took, put_added}
 use Rattle.pair_core.proofs.state.State.append.Goals as goal
 
@@ -17,7 +19,7 @@ ask-request-requires c =
     let self = c.args.self.now in
     let own = of_side self.parts c.args.side in
     can_ask_at self.setup.program own self.log.record.entries c.args.sub.now c.requires.at c.requires.can.0
-    (going_at (setup_of self) (log_of self) own.place c.requires.can.3 c.requires.can.2)
+    (going_at (setup_of self) (log_of self) (own_place own) c.requires.can.3 c.requires.can.2)
 
 pub take-requires-clause-takes : goal.take-requires-clause-takes
 take-requires-clause-takes c =
@@ -31,6 +33,12 @@ add-requires-clause-room c =
     rw (ap (λ w. w.log.entries) c.answer-answer.ensures.world, ap (λ p. p.plan.end) c.answer-answer.ensures.setup)
     (open_room (setup_of self) (log_of self) c.requires.can.3)
 
+pub take-requires-clause-few : goal.take-requires-clause-few
+take-requires-clause-few c = λ front life is.
+    let own = of_side c.args.self.now.parts c.args.side in
+    let next = last_next own.lives front life (sym (c.ask-request.ensures.lives ∙ c.requires.at.lives) ∙ is) in
+    omega (arith, next, c.requires.can.2, c.requires.kept.few, c.requires.kept.plan.end_high)
+
 pub returns-clause-at : goal.returns-clause-at
 returns-clause-at c =
     let self = c.args.self.now in
@@ -42,18 +50,22 @@ returns-clause-at c =
     let world = c.answer-answer.ensures.world in
     let count : length es ≡ length (answers_of es) = sym (length-map es (λ (x : Entry). x.answer)) in
     let stands = c.ask-request.ensures.stands self.setup.program (answers_of es) (stands_all self.setup.program own es c.args.sub.now c.requires.at alive here) in
-    let own_is : c.of-own.result ≡ own = c.of-own.ensures ∙ ap (λ w. of_side w.parts c.args.side) world in
     let from : c.from.result ≡ length es = c.from.ensures ∙ c.len-moment.ensures in
     let g = ledger (setup_of self) es in
     let dated = lawful_dated (setup_of self) g e.request.ask e.answer c.answer-answer.ensures.answer in
-    put_added self.setup.program c.add.new.self.setup.program self.parts c.add.new.self.parts c.put.new.self c.args.side c.of-own.result c.len-moment.result es c.add.new.self.log.record.entries e c.take.new.self
+    put_added self.setup.program c.add.new.self.setup.program self.parts c.add.new.self.parts c.take_one.new.parts c.args.side es c.add.new.self.log.record.entries e c.take.new.self
     (ap (λ p. p.program) c.add.ensures.setup ∙ ap (λ p. p.program) c.answer-answer.ensures.setup)
     (ap (λ l. l.entries) c.add.ensures.log ∙ ap (λ w. w.log.entries ++ e ∷ []) world)
     (c.add.ensures.parts ∙ ap (λ w. w.parts) world)
-    own_is
-    (c.len-moment.ensures ∙ sym here ∙ ap (λ o. o.place) (sym own_is))
-    c.put.ensures
+    c.take_one.ensures
     (took self.setup.program own es (es ++ e ∷ []) e c.ask-request.new.self c.take.new.self c.ask-request.result alive c.requires.can.1
     (c.ask-request.ensures.lives ∙ c.requires.at.lives) c.ask-request.ensures.waits refl
-    (take_added es own.place e here) c.take.ensures.lives c.take.ensures.going
+    (take_added es (own_place own) e here) c.take.ensures.lives c.take.ensures.going
     (c.take.ensures.stands self.setup.program (answers_of es) (from ∙ count) (subst (λ n. is_dated n e.answer ≡ true) (moment_is (setup_of self) es ∙ sym from) dated) stands))
+
+pub take_one-requires : goal.take_one-requires
+take_one-requires c =
+    let self = c.args.self.now in
+    let parts = c.add.ensures.parts ∙ ap (λ w. w.parts) c.answer-answer.ensures.world in
+    let place = ap (λ q. own_place (of_side q c.args.side)) parts in
+    omega (arith, place, c.requires.can.2, c.requires.kept.few, c.requires.kept.plan.end_high)
