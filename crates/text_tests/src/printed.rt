@@ -3,10 +3,10 @@ ghost use Rattle.std.specs.Prelude.{◌≡◌, ◌∷◌, [], Some, None, IfOk, 
 ghost use Rattle.s7_events.specs.declared.diagnostics.DiagCode.TheVariants as diag;
 ghost use Rattle.mc_machine.specs.Meaning.{is_built};
 ghost use Rattle.subsystem.specs.Part.{IsOpen};
-ghost use Rattle.pair_core.specs.Tail.{note_lines, block_lines};
+ghost use Rattle.trace_text.specs.Tail.{note_lines, block_lines};
 
 use event_record::Record;
-use pair_core::{Ended, Mode, Shown};
+use pair_core::{Ended, Shown};
 use pair_io::MemSink;
 use s7_base::{
     Answer, Ask, Blocks, CodeBlock, CodeKind, DataBlock, Entry, Job, JobArea, Loss, Request, Side,
@@ -17,6 +17,7 @@ use std::process::Abort;
 use std::test::Fail;
 use subsystem::Subsystem;
 use trace_printer::{SinkFault, print, print_load};
+use trace_text::Mode;
 
 /// What no CPU has yet in its tail: three kinds of diagnostic entries, and data blocks.
 fn the_definitions_write_what_no_cpu_has_yet()
