@@ -112,7 +112,7 @@ fn main_program(alloc: Global) -> Result<Blocks, Fail> {
 fn give(rt: &impl Abort, side: &mut Subsystem, answer: Answer, moment: u64) -> Result<(), Fail>
     requires open { IsOpen side.old }
     requires built { IsTrue (is_built answer) }
-    ensures { IsOpen side.new }
+    ensures { IfOk result (λ _. IsOpen side.new) }
 {
     assert!(rt; side.can_ask());
     let request = side.ask();
