@@ -19,7 +19,7 @@ use Rattle.trace_reader.proofs.ReadTail.{title_again, count_again}
 use Rattle.trace_reader.proofs.LineEnds.{title_is_line, last_is_line}
 use Rattle.trace_reader.proofs.GoesOn.{pair_is}
 use Rattle.trace_reader.proofs.Wholes.{last_quiet, last_closes, quiet_after, entries_close, ending_read}
-use Rattle.trace_reader.proofs.SectionStops.{ReadsAgain, AreLines, no_line_here, stops_later, with_line}
+use Rattle.trace_reader.proofs.SectionStops.{ReadsAgain, AreLines, no_line_here, stops_at_once, stops_later, with_line}
 use Rattle.trace_reader.proofs.EntryStops.{NoEntry, no_entry_here, no_entry_closed, LastIsShown, last_shown_here, last_shown_quiet, entries_same}
 use Rattle.trace_reader.proofs.TailStops.{tail_ends_here, tail_ends_closed, tails_same}
 
@@ -56,16 +56,10 @@ unfolding blank
 blank_is = (omega arith, tt, tt, tt)
 
 pub title_stop : (text : List ℕ) → None ≡ title_at text → StopsAt BeginsTrace BeginsTrace text (length text)
-title_stop text over = (
-  [],
-  text,
-  refl,
-  refl,
-  (blank, text_of blank, blank_is, refl),
-  (λ more later split begins.
-      no_line_here title_line any_mode title_at text more later begins.1 titles_are_lines titles_again over split begins.0.mode (body begins.0.entries begins.0.tail begins.0.ending) tt
-      (sym (with_line [] more begins.1) ∙ sym begins.3)),
-)
+title_stop text over =
+    stops_at_once BeginsTrace BeginsTrace text (blank, text_of blank, blank_is, refl) (λ more later split begins.
+    no_line_here title_line any_mode title_at text more later begins.1 titles_are_lines titles_again over split begins.0.mode (body begins.0.entries begins.0.tail begins.0.ending) tt
+    (sym (with_line [] more begins.1) ∙ sym begins.3))
 
 -- ---- the tail
 
