@@ -6,8 +6,10 @@
 #   tools/commands.sh                              runs ./s7h and ./trace_chart, which prove and build the programs first
 #   S7H=PATH TRACE_CHART=PATH tools/commands.sh    runs these programs in their place; `--look` is run by ./s7h always
 #   tools/commands.sh --list                       lists the command lines, and runs nothing
+#
+# Not run: `rt ci`, the gate itself, and the lines that take the time (bench/README.md).
 cd "$(dirname "$(readlink -f "${BASH_SOURCE[0]}")")/.." || exit 1
-pages=(README.md tools/help docs/*.md examples/*/README.md bench/README.md)
+pages=(README.md tools/help docs/*.md examples/*/README.md)
 
 # the command lines of the pages: those of indented lines and of backticks that begin with a program of this repository or
 # with awk. A word in capital letters stands for an argument, so such a line is a form and no command.

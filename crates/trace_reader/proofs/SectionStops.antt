@@ -11,7 +11,7 @@ use Rattle.trace_reader.specs.Images.{image}
 use Rattle.trace_reader.specs.Lines.{note_at, image_line_at}
 use Rattle.trace_reader.specs.Text.{note_line, area_lines}
 use Rattle.trace_reader.specs.Ranges.{Each, AreBytes, IsImage, FitsNote, FitsAreas}
-use Rattle.trace_reader.specs.Refusal.{StopsAt, WithinNotes, BeginsNotes, WithinAreas, BeginsAreas}
+use Rattle.trace_reader.specs.Refusal.{NoLineFits, StopsAt, WithinNotes, BeginsNotes, WithinAreas, BeginsAreas}
 use Rattle.trace_reader.proofs.Fronts.{after_again}
 use Rattle.trace_reader.proofs.ReadBack.{image_at_again}
 use Rattle.trace_reader.proofs.ReadTail.{note_again}
@@ -80,6 +80,10 @@ one_more_line line Fits read_at (x ∷ xs) (y ∷ ys) u v again fx fy less e non
 -- a front, one line more and what follows
 pub with_line : (front more x : List ℕ) → (front ++ (more ++ (10 ∷ []))) ++ x ≡ front ++ (more ++ (10 ∷ x))
 with_line front more x = append_assoc front (more ++ (10 ∷ [])) x ∙ ap (λ (t : List ℕ). front ++ t) (append_assoc more (10 ∷ []) x)
+
+-- a section stops at its first line
+pub stops_at_once : (Within Begins : List ℕ → Type 0) (text : List ℕ) → Within [] → NoLineFits Begins [] text → StopsAt Within Begins text (length text)
+stops_at_once Within Begins text within none = ([], text, refl, refl, within, none)
 
 -- a section stops where one stops that begins later in it
 pub stops_later : (Within Begins Inner Starts : List ℕ → Type 0) (front whole text : List ℕ) (left : ℕ) → whole ≡ front ++ text → StopsAt Inner Starts text left
@@ -215,16 +219,10 @@ same_row name count a b u v few fa fb e =
     (pair_is a b u v (sym (row_again name count few a u fa) ∙ ap (image_line_at name count) e ∙ row_again name count few b v fb)).1
 
 pub inputs_stop : (text : List ℕ) → None ≡ image_line_at (codes "I ") 64 text → StopsAt WithinAreas BeginsAreas text (length text)
-inputs_stop text over = (
-  [],
-  text,
-  refl,
-  refl,
-  (blank_areas, area_lines blank_areas, blank_fits, refl),
-  (λ more later split begins.
-      no_row (codes "I ") 64 text more later begins.2 (output_rows begins.0 begins.1) begins.0.inputs (omega arith) refl over split begins.3.0
-      (sym (with_line [] more begins.2) ∙ sym begins.4 ∙ rows_joined begins.0 begins.1)),
-)
+inputs_stop text over =
+    stops_at_once WithinAreas BeginsAreas text (blank_areas, area_lines blank_areas, blank_fits, refl) (λ more later split begins.
+    no_row (codes "I ") 64 text more later begins.2 (output_rows begins.0 begins.1) begins.0.inputs (omega arith) refl over split begins.3.0
+    (sym (with_line [] more begins.2) ∙ sym begins.4 ∙ rows_joined begins.0 begins.1))
 
 row_left : (name bytes after text : List ℕ) → text ≡ name ++ (image bytes ++ (10 ∷ after)) → text ≡ row name bytes ++ after
 row_left name bytes after text e = e ∙ sym (row_before name bytes after)

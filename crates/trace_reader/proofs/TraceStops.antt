@@ -1,5 +1,5 @@
 -- Where the text of a trace stops to fit.
-use Rattle.std.proofs.Common.{◌≡◌, ℕ, ◌+◌, ◌-◌, ◌<◌, Bool, true, false, List, [], ◌∷◌, ◌++◌, length, length-append, take, Option, Some, None, refl, sym, subst, ap, ◌∙◌, arith, append_assoc}
+use Rattle.std.proofs.Common.{◌≡◌, ℕ, ◌+◌, ◌-◌, ◌<◌, Bool, List, [], ◌∷◌, ◌++◌, length, length-append, take, Option, Some, None, refl, sym, subst, ap, ◌∙◌, arith, append_assoc}
 use Rattle.std.specs.Prelude.{is_some}
 use Rattle.std.proofs.lemmas.List.{append-nil}
 use Rattle.trace_reader.specs.declared.trace.Mode.{Mode}
@@ -12,14 +12,14 @@ use Rattle.trace_reader.specs.declared.reading.Stop.TheVariants as stops
 use Rattle.trace_reader.specs.Parts.{TailParts, TraceParts}
 use Rattle.trace_reader.specs.Lines.{title_at, entry_at, count_at, ending_at}
 use Rattle.trace_reader.specs.Text.{title_line, entries_text, count_line, notes_and_after, tail_lines, last_line, text_of}
-use Rattle.trace_reader.specs.Ranges.{Each, FitsEntry, FitsTail, EndsAs, FitsEnding, IsTrace, EndShowings, ClosesEntries, ClosesTail}
+use Rattle.trace_reader.specs.Ranges.{Each, FitsEntry, FitsTail, EndsAs, FitsEnding, IsTrace, EndShowings, ClosesEntries}
 use Rattle.trace_reader.specs.Refusal.{lines_after, BeginsTrace, NoLineFits, StopsAt, WithinTail, BeginsTail, TailStop, TraceStop, TailIsOver}
 use Rattle.trace_reader.proofs.ReadBack.{number_at_none}
-use Rattle.trace_reader.proofs.ReadTail.{title_again, count_again, end_again, stopped_again, none_again, spent_again}
+use Rattle.trace_reader.proofs.ReadTail.{title_again, count_again}
 use Rattle.trace_reader.proofs.LineEnds.{title_is_line, last_is_line}
 use Rattle.trace_reader.proofs.GoesOn.{pair_is}
-use Rattle.trace_reader.proofs.Wholes.{last_closes, entries_close}
-use Rattle.trace_reader.proofs.SectionStops.{ReadsAgain, AreLines, no_line_here, stops_later, with_line}
+use Rattle.trace_reader.proofs.Wholes.{last_quiet, last_closes, quiet_after, entries_close, ending_read}
+use Rattle.trace_reader.proofs.SectionStops.{ReadsAgain, AreLines, no_line_here, stops_at_once, stops_later, with_line}
 use Rattle.trace_reader.proofs.EntryStops.{NoEntry, no_entry_here, no_entry_closed, LastIsShown, last_shown_here, last_shown_quiet, entries_same}
 use Rattle.trace_reader.proofs.TailStops.{tail_ends_here, tail_ends_closed, tails_same}
 
@@ -56,35 +56,15 @@ unfolding blank
 blank_is = (omega arith, tt, tt, tt)
 
 pub title_stop : (text : List ℕ) → None ≡ title_at text → StopsAt BeginsTrace BeginsTrace text (length text)
-title_stop text over = (
-  [],
-  text,
-  refl,
-  refl,
-  (blank, text_of blank, blank_is, refl),
-  (λ more later split begins.
-      no_line_here title_line any_mode title_at text more later begins.1 titles_are_lines titles_again over split begins.0.mode (body begins.0.entries begins.0.tail begins.0.ending) tt
-      (sym (with_line [] more begins.1) ∙ sym begins.3)),
-)
+title_stop text over =
+    stops_at_once BeginsTrace BeginsTrace text (blank, text_of blank, blank_is, refl) (λ more later split begins.
+    no_line_here title_line any_mode title_at text more later begins.1 titles_are_lines titles_again over split begins.0.mode (body begins.0.entries begins.0.tail begins.0.ending) tt
+    (sym (with_line [] more begins.1) ∙ sym begins.3))
 
 -- ---- the tail
 
--- where the entries are followed by this text, none of it is an entry or a showing
-quiet_after : (tail : Option TailParts) (ending : Ending) (count : ℕ) (rest : List ℕ) → FitsEnding tail ending → ClosesEntries (tail_lines tail ++ (last_line ending count ++ rest))
-quiet_after (Some tail) ending count rest fits = (number_at_none 4294967294 (tail_lines (Some tail) ++ (last_line ending count ++ rest)) refl, refl, refl)
-quiet_after None endings.End count rest fits = absurd fits
-quiet_after None (endings.Stop code) count rest fits = absurd fits
-quiet_after None endings.NoneLeft count rest fits = (number_at_none 4294967294 (last_line endings.NoneLeft count ++ rest) refl, refl, refl)
-quiet_after None endings.Spent count rest fits = (number_at_none 4294967294 (last_line endings.Spent count ++ rest) refl, refl, refl)
-
 counted : (count : ℕ) (rest : List ℕ) → ClosesEntries (count_line count ++ rest)
 counted count rest = (number_at_none 4294967294 (count_line count ++ rest) refl, refl, refl)
-
-last_quiet : (ending : Ending) (count : ℕ) (rest : List ℕ) → ClosesTail (last_line ending count ++ rest)
-last_quiet endings.End count rest = (refl, refl, refl)
-last_quiet (endings.Stop code) count rest = (refl, refl, refl)
-last_quiet endings.NoneLeft count rest = (refl, refl, refl)
-last_quiet endings.Spent count rest = (refl, refl, refl)
 
 -- a trace whose text begins with these entries, and then has no entry and no showing, has these and goes on with what follows them
 after_entries : (entries : List Entry) (u : List ℕ) (trace : TraceParts) → length entries < 4294967296 → Each FitsEntry entries → NoEntry (length entries) u → LastIsShown entries u → IsTrace trace
@@ -154,14 +134,7 @@ abbrev fits_last : Bool → ℕ → Ending → Type 0
 fits_last has_tail count ending = EndsAs has_tail ending × (count < 4294967296)
 
 last_again : (has_tail : Bool) (count : ℕ) → ReadsAgain (last_of count) (fits_last has_tail count) (ending_at has_tail count)
-last_again true count endings.End rest fits = end_again count rest fits.1
-last_again true count (endings.Stop code) rest fits = stopped_again code count rest fits.1
-last_again true count endings.NoneLeft rest fits = absurd fits.0
-last_again true count endings.Spent rest fits = absurd fits.0
-last_again false count endings.End rest fits = absurd fits.0
-last_again false count (endings.Stop code) rest fits = absurd fits.0
-last_again false count endings.NoneLeft rest fits = none_again count rest fits.1
-last_again false count endings.Spent rest fits = spent_again count rest fits.1
+last_again has_tail count ending rest fits = ending_read has_tail ending count rest fits.0 fits.1
 
 lasts_are_lines : (has_tail : Bool) (count : ℕ) → AreLines (last_of count) (fits_last has_tail count)
 lasts_are_lines has_tail count ending fits = last_is_line ending count fits.1

@@ -1,5 +1,5 @@
 -- The tail and the whole trace that were written are read back.
-use Rattle.std.proofs.Common.{◌≡◌, ℕ, ◌<◌, Bool, true, false, List, [], ◌∷◌, ◌++◌, length, Option, Some, None, refl, sym, ap, ◌∙◌, arith, append_assoc}
+use Rattle.std.proofs.Common.{◌≡◌, ℕ, ◌<◌, Bool, true, false, List, [], ◌∷◌, ◌++◌, length, Option, Some, None, refl, sym, subst, ap, ◌∙◌, arith, append_assoc}
 use Rattle.std.specs.Prelude.{codes, is_some}
 use Rattle.std.specs.List.{flat_map}
 use Rattle.std.proofs.lemmas.List.{append-nil}
@@ -10,7 +10,7 @@ use Rattle.trace_reader.specs.Fields.{after}
 use Rattle.trace_reader.specs.Parts.{TailParts}
 use Rattle.trace_reader.specs.Text.{note_line, area_lines, block_line, counter_line, count_line, notes_and_after, tail_lines, last_line}
 use Rattle.trace_reader.specs.Lines.{count_at, ending_at}
-use Rattle.trace_reader.specs.Ranges.{FitsTail, FitsEnding, ClosesEntries, ClosesTail}
+use Rattle.trace_reader.specs.Ranges.{FitsTail, EndsAs, FitsEnding, ClosesEntries, ClosesTail}
 use Rattle.trace_reader.proofs.ReadBack.{number_at_none}
 use Rattle.trace_reader.proofs.ReadTail.{count_again, end_again, stopped_again, none_again, spent_again}
 use Rattle.trace_reader.proofs.GoesOn.{no_reading, pair_is}
@@ -56,34 +56,42 @@ has_tail text count later (Some tail) rest some fits closes whole =
     let same = pair_is count (length tail.notes) later (notes_and_after tail ++ rest) (some ∙ count_read tail text rest fits whole) in
     (tail, sym same.0, fits, same.1 ∙ tail_joined tail rest, refl)
 
+pub last_quiet : (ending : Ending) (count : ℕ) (rest : List ℕ) → ClosesTail (last_line ending count ++ rest)
+last_quiet endings.End count rest = (refl, refl, refl)
+last_quiet (endings.Stop code) count rest = (refl, refl, refl)
+last_quiet endings.NoneLeft count rest = (refl, refl, refl)
+last_quiet endings.Spent count rest = (refl, refl, refl)
+
 pub last_closes : (ending : Ending) (count : ℕ) → ClosesTail (last_line ending count)
-last_closes endings.End count = (refl, refl, refl)
-last_closes (endings.Stop code) count = (refl, refl, refl)
-last_closes endings.NoneLeft count = (refl, refl, refl)
-last_closes endings.Spent count = (refl, refl, refl)
+last_closes ending count = subst ClosesTail (append-nil (last_line ending count)) (last_quiet ending count [])
+
+-- where the entries are followed by this text, none of it is an entry or a showing
+pub quiet_after : (tail : Option TailParts) (ending : Ending) (count : ℕ) (rest : List ℕ) → FitsEnding tail ending → ClosesEntries (tail_lines tail ++ (last_line ending count ++ rest))
+quiet_after (Some tail) ending count rest fits = (number_at_none 4294967294 (tail_lines (Some tail) ++ (last_line ending count ++ rest)) refl, refl, refl)
+quiet_after None endings.End count rest fits = absurd fits
+quiet_after None (endings.Stop code) count rest fits = absurd fits
+quiet_after None endings.NoneLeft count rest fits = (number_at_none 4294967294 (last_line endings.NoneLeft count ++ rest) refl, refl, refl)
+quiet_after None endings.Spent count rest fits = (number_at_none 4294967294 (last_line endings.Spent count ++ rest) refl, refl, refl)
 
 pub entries_close : (tail : Option TailParts) (ending : Ending) (count : ℕ) → FitsEnding tail ending → ClosesEntries (tail_lines tail ++ last_line ending count)
-entries_close (Some tail) ending count fits = (number_at_none 4294967294 (tail_lines (Some tail) ++ last_line ending count) refl, refl, refl)
-entries_close None endings.End count fits = absurd fits
-entries_close None (endings.Stop code) count fits = absurd fits
-entries_close None endings.NoneLeft count fits = (number_at_none 4294967294 (last_line endings.NoneLeft count) refl, refl, refl)
-entries_close None endings.Spent count fits = (number_at_none 4294967294 (last_line endings.Spent count) refl, refl, refl)
+entries_close tail ending count fits = subst (λ (t : List ℕ). ClosesEntries (tail_lines tail ++ t)) (append-nil (last_line ending count)) (quiet_after tail ending count [] fits)
 
-ending_once : (tail : Option TailParts) (ending : Ending) (count : ℕ) → FitsEnding tail ending → count < 4294967296 → ending_at (is_some tail) count (last_line ending count ++ []) ≡ Some (ending, [])
-ending_once (Some tail) endings.End count fits few = end_again count [] few
-ending_once (Some tail) (endings.Stop code) count fits few = stopped_again code count [] few
-ending_once (Some tail) endings.NoneLeft count fits few = absurd fits
-ending_once (Some tail) endings.Spent count fits few = absurd fits
-ending_once None endings.End count fits few = absurd fits
-ending_once None (endings.Stop code) count fits few = absurd fits
-ending_once None endings.NoneLeft count fits few = none_again count [] few
-ending_once None endings.Spent count fits few = spent_again count [] few
+-- the last line is read back
+pub ending_read : (has_tail : Bool) (ending : Ending) (count : ℕ) (rest : List ℕ) → EndsAs has_tail ending → count < 4294967296 → ending_at has_tail count (last_line ending count ++ rest) ≡ Some (ending, rest)
+ending_read true endings.End count rest fits few = end_again count rest few
+ending_read true (endings.Stop code) count rest fits few = stopped_again code count rest few
+ending_read true endings.NoneLeft count rest fits few = absurd fits
+ending_read true endings.Spent count rest fits few = absurd fits
+ending_read false endings.End count rest fits few = absurd fits
+ending_read false (endings.Stop code) count rest fits few = absurd fits
+ending_read false endings.NoneLeft count rest fits few = none_again count rest few
+ending_read false endings.Spent count rest fits few = spent_again count rest few
 
 pub ending_again : (tail : Option TailParts) (ending : Ending) (count read : ℕ) (found : Bool) (text : List ℕ) → FitsEnding tail ending → count < 4294967296
     → found ≡ is_some tail → read ≡ count → text ≡ last_line ending count → ending_at found read text ≡ Some (ending, [])
 ending_again tail ending count read found text fits few same number whole =
     ap (λ (b : Bool). ending_at b read text) same ∙ ap (λ (n : ℕ). ending_at (is_some tail) n text) number
-    ∙ ap (ending_at (is_some tail) count) (whole ∙ sym (append-nil (last_line ending count))) ∙ ending_once tail ending count fits few
+    ∙ ap (ending_at (is_some tail) count) (whole ∙ sym (append-nil (last_line ending count))) ∙ ending_read (is_some tail) ending count [] fits few
 
 pub never : false ≡ true → ⊥
 never e = absurd cc
