@@ -1,5 +1,5 @@
 -- The pages of data blocks that are loaded.
-use Rattle.std.proofs.Common.{◌≡◌, ◌⊎◌, inl, inr, ℕ, zero, suc, ◌+◌, ◌<◌, ◌≤◌, ◌==◌, true, false, List, [], ◌∷◌, ◌++◌, length, Option, Some, None, refl, sym, ap, ◌∙◌, arith}
+use Rattle.std.proofs.Common.{◌≡◌, inl, inr, ℕ, zero, suc, ◌+◌, ◌<◌, ◌≤◌, ◌==◌, List, [], ◌∷◌, ◌++◌, length, Option, Some, None, refl, sym, ap, ◌∙◌, arith}
 use Rattle.std.specs.Prelude.{IsTrue, if◌then◌else◌}
 use Rattle.std.specs.List.{find, All}
 use Rattle.std.specs.Option.{option_map}
@@ -93,16 +93,16 @@ after_it x xs (suc n) none lt =
     let a = next_pages (x ∷ xs) n in
     let b = next_pages xs n in
     elim (cases_eq x.number n) [
-      inl e ↦
-        let c = before_it x xs n (omega arith) in
-        let d = ap (λ o. pages_of (bytes_found o)) (found n x xs e) in
-        let f = ap (λ k. pages_of (bytes_found (numbered k xs))) (sym e) ∙ ap (λ o. pages_of (bytes_found o)) none in
-        omega arith
+      | inl e ↦
+          let c = before_it x xs n (omega arith) in
+          let d = ap (λ o. pages_of (bytes_found o)) (found n x xs e) in
+          let f = ap (λ k. pages_of (bytes_found (numbered k xs))) (sym e) ∙ ap (λ o. pages_of (bytes_found o)) none in
+          omega arith
       | inr ne ↦
-        let c = after_it x xs n none (omega arith) in
-        let d = ap (λ o. pages_of (bytes_found o)) (passed n x xs ne) in
-        omega arith
-      ]
+          let c = after_it x xs n none (omega arith) in
+          let d = ap (λ o. pages_of (bytes_found o)) (passed n x xs ne) in
+          omega arith
+    ]
 
 none_loaded : (n : ℕ) → pages_below [] n ≡ 0
 none_loaded zero = no_pages []

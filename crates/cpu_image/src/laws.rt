@@ -8,7 +8,6 @@ pub fn a_value_written_is_read()
 {}
 
 /// A bit that was written is read at its place, and the other bits of its byte are as they were.
-#[tactic(auto, using(crate::proofs::Writes::written_bit_is_read))]
 pub fn a_bit_written_is_read()
     ensures { WrittenBitIsRead }
 {}
