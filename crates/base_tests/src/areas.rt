@@ -34,16 +34,16 @@ fn areas_begin_with_their_bytes(rt: HostRuntime) -> Result<(), Fail> {
     assert_eq!(rt; image.read_bit(Area::Db(3), 0, 1), Ok(true));
     assert_eq!(rt; image.read_bit(Area::Db(3), 0, 0), Ok(false));
     let cases = [
-        (Area::I, 60),
-        (Area::Q, 60),
-        (Area::M, 1020),
-        (Area::Timers, 6140),
-        (Area::Counters, 1020),
-        (Area::Registers, 252),
+        (Area::I, 60, 63),
+        (Area::Q, 60, 63),
+        (Area::M, 1020, 1023),
+        (Area::Timers, 6140, 6143),
+        (Area::Counters, 1020, 1023),
+        (Area::Registers, 252, 255),
     ];
-    for (area, at_byte) in cases {
+    for (area, at_byte, last) in cases {
         assert_eq!(rt; image.read(area, at_byte, 4), Ok(0));
-        assert_eq!(rt; image.read(area, at_byte + 3, 2), Err(ImageFault::NoSuchAddress));
+        assert_eq!(rt; image.read(area, last, 2), Err(ImageFault::NoSuchAddress));
     }
     Ok(())
 }
@@ -71,10 +71,22 @@ fn a_write_over_two_pages(rt: HostRuntime) -> Result<(), Fail> {
 #[test]
 fn what_is_refused_changes_nothing(rt: HostRuntime) -> Result<(), Fail> {
     let mut image = image(rt.alloc())?;
-    assert_eq!(rt; image.write(Area::Db(3), 2, 4, 1), Err(ImageFault::NoSuchAddress));
-    assert_eq!(rt; image.write(Area::Db(4), 65_535, 4, 1), Err(ImageFault::NoSuchBlock));
-    assert_eq!(rt; image.write_bit(Area::Db(3), 4, 0, true), Err(ImageFault::NoSuchAddress));
-    assert_eq!(rt; image.read_bit(Area::Db(0), 0, 0), Err(ImageFault::NoSuchBlock));
+    assert_eq!(rt;
+        image.write(Area::Db(3), 2, 4, 1),
+        Err(ImageFault::NoSuchAddress)
+    );
+    assert_eq!(rt;
+        image.write(Area::Db(4), 65_535, 4, 1),
+        Err(ImageFault::NoSuchBlock)
+    );
+    assert_eq!(rt;
+        image.write_bit(Area::Db(3), 4, 0, true),
+        Err(ImageFault::NoSuchAddress)
+    );
+    assert_eq!(rt;
+        image.read_bit(Area::Db(0), 0, 0),
+        Err(ImageFault::NoSuchBlock)
+    );
     assert_eq!(rt; image.read(Area::Db(3), 0, 4), Ok(0x0a14_1e28));
     for page in 0..45 {
         assert!(rt; !image.is_marked(page));

@@ -198,20 +198,21 @@ impl CpuImage {
         Ok(())
     }
 
-    /// Returns whether a page is marked.
+    /// Returns whether a page is marked. None is after the last.
     pub fn is_marked(&self, page: u32) -> bool
-        requires { page < page_count self.now }
         ensures { result ≡ is_marked self.now page }
     {
-        self.marks[page as usize]
+        self.marks.get(page as usize).is_some_and(|mark| *mark)
     }
 
-    /// Takes the mark of a page away.
+    /// Takes the mark of a page away. After the last page there is none.
     pub fn clear_mark(&mut self, page: u32)
-        requires { page < page_count self.old }
         ensures { self.new ≡ record self.old { marks = slice_set self.old.marks page false } }
     {
-        self.marks[page as usize] = false;
+        let page = page as usize;
+        if page < self.marks.len() {
+            self.marks[page] = false;
+        }
     }
 
     fn byte(&self, area: Area, at_byte: u16) -> Result<u8, ImageFault>
