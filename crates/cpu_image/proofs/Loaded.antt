@@ -1,16 +1,19 @@
 -- The pages of data blocks that are loaded.
-use Rattle.std.proofs.Common.{◌≡◌, ◌⊎◌, inl, inr, ℕ, zero, suc, ◌+◌, ◌<◌, ◌≤◌, ◌==◌, true, false, List, [], ◌∷◌, ◌++◌, length, Option, Some, None, refl, sym, ap, ◌∙◌, arith}
+use Rattle.std.proofs.Common.{◌≡◌, inl, inr, ℕ, zero, suc, ◌+◌, ◌<◌, ◌≤◌, ◌==◌, List, [], ◌∷◌, ◌++◌, length, Option, Some, None, refl, sym, ap, ◌∙◌, arith}
 use Rattle.std.specs.Prelude.{IsTrue, if◌then◌else◌}
 use Rattle.std.specs.List.{find, All}
 use Rattle.std.specs.Option.{option_map}
 use Rattle.std.proofs.lemmas.Bool.{cases_eq, and_parts, ltb-true, eq-eqb, ne_eqb}
-use Rattle.std.proofs.lemmas.List.{length-append}
+use Rattle.std.specs.Prelude.{slice_index_or}
+use Rattle.std.proofs.Math.ListN.{get_or-append}
+use Rattle.std.proofs.lemmas.List.{length-append, get_or_push}
 use Rattle.std.proofs.lemmas.List.Elements.{All-head, All-tail}
 use Rattle.std.proofs.lemmas.List.Sums.{sum_by-cons, sum_by_push}
 use Rattle.s7_base.specs.Blocks.{Data, Program}
 use Rattle.s7_base.specs.Limits.{pages, all_pages, is_below_first, data_rise, IsData, IsWellFormed}
 use Rattle.cpu_image.specs.Pages.{pages_of, data_pages}
 use Rattle.cpu_image.specs.Layout.{first_bytes, first_bytes_below}
+use Rattle.cpu_image.specs.Laws.{BlocksBegin}
 
 abbrev numbered : ℕ → List Data → Option Data
 numbered n blocks = find (λ block. block.number == n) blocks
@@ -77,6 +80,24 @@ pub length_below : (blocks : List Data) (n : ℕ) → length (first_bytes_below 
 length_below blocks zero = length_none blocks
 length_below blocks (suc n) = let a = length_next blocks n in let b = length_below blocks n in omega arith
 
+-- the area of a number has the first bytes of its block
+next_below : (blocks : List Data) (n : ℕ) → first_bytes_below blocks (suc n) ≡ first_bytes_below blocks n ++ first_bytes blocks n ∷ []
+unfolding first_bytes_below
+next_below blocks n = refl
+
+first_at : (blocks : List Data) (count n : ℕ) → n < count → slice_index_or (first_bytes_below blocks count) n None ≡ first_bytes blocks n
+first_at blocks zero n lt = absurd (omega arith)
+first_at blocks (suc count) n lt =
+    let size = length_below blocks count in
+    ap (λ l. slice_index_or l n None) (next_below blocks count)
+    ∙ elim (cases_eq n count) [
+      | inl e ↦ get_or_push (first_bytes_below blocks count) (first_bytes blocks count) None n (omega arith) ∙ ap (first_bytes blocks) (sym e)
+      | inr ne ↦ get_or-append (first_bytes_below blocks count) (first_bytes blocks count ∷ []) None n (omega arith) ∙ first_at blocks count n (omega arith)
+    ]
+
+pub blocks_begin : BlocksBegin
+blocks_begin program n lt = first_at program.data_blocks 256 n lt
+
 -- a further block counts from its number on
 before_it : (x : Data) (xs : List Data) (n : ℕ) → n ≤ x.number → pages_below (x ∷ xs) n ≡ pages_below xs n
 before_it x xs zero h = no_pages (x ∷ xs) ∙ sym (no_pages xs)
@@ -93,16 +114,16 @@ after_it x xs (suc n) none lt =
     let a = next_pages (x ∷ xs) n in
     let b = next_pages xs n in
     elim (cases_eq x.number n) [
-      inl e ↦
-        let c = before_it x xs n (omega arith) in
-        let d = ap (λ o. pages_of (bytes_found o)) (found n x xs e) in
-        let f = ap (λ k. pages_of (bytes_found (numbered k xs))) (sym e) ∙ ap (λ o. pages_of (bytes_found o)) none in
-        omega arith
+      | inl e ↦
+          let c = before_it x xs n (omega arith) in
+          let d = ap (λ o. pages_of (bytes_found o)) (found n x xs e) in
+          let f = ap (λ k. pages_of (bytes_found (numbered k xs))) (sym e) ∙ ap (λ o. pages_of (bytes_found o)) none in
+          omega arith
       | inr ne ↦
-        let c = after_it x xs n none (omega arith) in
-        let d = ap (λ o. pages_of (bytes_found o)) (passed n x xs ne) in
-        omega arith
-      ]
+          let c = after_it x xs n none (omega arith) in
+          let d = ap (λ o. pages_of (bytes_found o)) (passed n x xs ne) in
+          omega arith
+    ]
 
 none_loaded : (n : ℕ) → pages_below [] n ≡ 0
 none_loaded zero = no_pages []

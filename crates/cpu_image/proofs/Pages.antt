@@ -1,5 +1,5 @@
 -- The pages of areas, and of data blocks of which one was written.
-use Rattle.std.proofs.Common.{◌≡◌, ℕ, ◌+◌, ◌-◌, ◌/◌, ◌^◌, Bool, ◌<◌, ◌≤◌, List, length, take, drop, ◌++◌, Option, Some, None, length-take, refl, sym, ap, ◌∙◌, subst, arith, ◌⊎◌, inl, inr}
+use Rattle.std.proofs.Common.{◌≡◌, ℕ, ◌+◌, ◌/◌, ◌<◌, ◌≤◌, List, length, take, drop, ◌++◌, Option, Some, None, length-take, refl, sym, ap, ◌∙◌, arith, inl, inr}
 use Rattle.std.specs.Prelude.{slice_index, slice_index_or, slice_set}
 use Rattle.std.proofs.lemmas.List.{length-take-le, length-drop, length-append, take-set-le, get_or-take, get_or_past, get_or-set_same, get_or-set_other, length-set}
 use Rattle.std.proofs.Math.Seq.{take-set-lt}
@@ -29,14 +29,14 @@ pages_there (Some bytes) h = refl
 
 block_there : (blocks : List (Option (List ℕ))) (n at : ℕ) → length blocks ≡ 256 → at < length (bytes_in (slice_index_or blocks n None)) → data_pages (take n blocks) + (at + 256) / 256 ≤ data_pages blocks
 block_there blocks n at long h = elim (cases_lt n (length blocks)) [
-  inl lt ↦
-    let b = block_has (slice_index_or blocks n None) at h in
-    let s = sum_by_more_le pages_of blocks n None lt in
-    omega arith
+  | inl lt ↦
+      let b = block_has (slice_index_or blocks n None) at h in
+      let s = sum_by_more_le pages_of blocks n None lt in
+      omega arith
   | inr ge ↦
-    let e = ap (λ o. length (bytes_in o)) (get_or_past blocks n None ge) in
-    absurd (omega arith)
-  ]
+      let e = ap (λ o. length (bytes_in o)) (get_or_past blocks n None ge) in
+      absurd (omega arith)
+]
 
 -- each byte of an area lies on a page that there is
 pub page_is_there : (image : Image) (area : Area) (at : ℕ) → HasSizes image → at < length (area_bytes image area) → page_of image area at < length image.marks
@@ -54,12 +54,12 @@ pages_set blocks m y lt e = let s = sum_by-set pages_of blocks m y None lt in om
 
 pub pages_take_set : (blocks : List (Option (List ℕ))) (m n : ℕ) (y : Option (List ℕ)) → m < length blocks → pages_of y ≡ pages_of (slice_index_or blocks m None) → data_pages (take n (slice_set blocks m y)) ≡ data_pages (take n blocks)
 pages_take_set blocks m n y lt e = elim (cases_lt m n) [
-  inl below ↦
-    let count = length-take n blocks in
-    ap data_pages (take-set-lt n blocks m y below)
-    ∙ pages_set (take n blocks) m y (omega arith) (e ∙ ap pages_of (sym (get_or-take n blocks m None below)))
+  | inl below ↦
+      let count = length-take n blocks in
+      ap data_pages (take-set-lt n blocks m y below)
+      ∙ pages_set (take n blocks) m y (omega arith) (e ∙ ap pages_of (sym (get_or-take n blocks m None below)))
   | inr past ↦ ap data_pages (take-set-le n blocks m y past)
-  ]
+]
 
 -- what is always true of the pages of an image, in which a data block was written that keeps its length
 pub pages_kept : (blocks : List (Option (List ℕ))) (count : ℕ) (first : ℕ → ℕ) (m : ℕ) (old new : List ℕ) → m < length blocks → Some old ≡ slice_index_or blocks m None → length new ≡ length old
@@ -79,11 +79,13 @@ pub pages_go_on : (blocks : List (Option (List ℕ))) (firsts : List ℕ) (numbe
     → (page + count ≡ 41 + data_pages (take (number + 1) blocks)) × ((n : ℕ) → n < number + 1 → slice_index (slice_set firsts number page) n ≡ 41 + data_pages (take n blocks))
 pages_go_on blocks firsts number page count lt lt2 is h =
     let more = sum_by_more pages_of blocks number None lt in
-    let so_far = h.0 in
-    (omega arith, λ n below. elim (cases_eq n number) [
-      inl e ↦ ap (λ k. slice_index (slice_set firsts number page) k) e ∙ get_or-set_same firsts number page 0 lt2 ∙ h.0 ∙ ap (λ k. 41 + data_pages (take k blocks)) (sym e)
-      | inr ne ↦ get_or-set_other firsts number n page 0 ne ∙ h.1 n (omega arith)
-      ])
+    let so_far = h.0 in (
+      omega arith,
+      λ n below. elim (cases_eq n number) [
+        | inl e ↦ ap (λ k. slice_index (slice_set firsts number page) k) e ∙ get_or-set_same firsts number page 0 lt2 ∙ h.0 ∙ ap (λ k. 41 + data_pages (take k blocks)) (sym e)
+        | inr ne ↦ get_or-set_other firsts number n page 0 ne ∙ h.1 n (omega arith)
+      ],
+    )
 
 -- the sum so far and the next data block are within the whole
 pub pages_within : (blocks : List (Option (List ℕ))) (number : ℕ) → number < length blocks → data_pages (take number blocks) + pages_of (slice_index_or blocks number None) ≤ data_pages blocks

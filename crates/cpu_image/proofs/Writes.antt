@@ -1,5 +1,5 @@
 -- What was written is read, and the rest is kept.
-use Rattle.std.proofs.Common.{◌≡◌, ◌≢◌, ◌⊎◌, ◌↔◌, inl, inr, ℕ, zero, suc, ◌+◌, ◌-◌, ◌*◌, ◌^◌, ◌/◌, ◌<◌, ◌≤◌, Bool, true, false, List, [], ◌∷◌, ◌++◌, length, take, drop, Option, Some, None, refl, sym, ap, ◌∙◌, subst, arith, zero-add}
+use Rattle.std.proofs.Common.{◌≡◌, ◌≢◌, ◌⊎◌, inl, inr, ℕ, zero, suc, ◌+◌, ◌-◌, ◌*◌, ◌^◌, ◌/◌, ◌<◌, ◌≤◌, Bool, true, false, List, [], ◌∷◌, ◌++◌, length, take, drop, Option, Some, None, refl, sym, ap, ◌∙◌, subst, arith, zero-add}
 use Rattle.std.specs.Prelude.{slice_range, slice_get, slice_set, slice_index, slice_index_or, IsTrue, bit_or, bit_and, ◌==◌}
 use Rattle.std.specs.Int.{bytes_high_first, bit_at, w8}
 use Rattle.std.proofs.Math.Pow.{pow-lt}
@@ -10,8 +10,8 @@ use Rattle.std.proofs.lemmas.Nat.{from_be_bytes-to_be_bytes_2, from_be_bytes-to_
 use Rattle.s7_events.specs.declared.diagnostics.Area.{Area}
 use Rattle.s7_events.specs.declared.diagnostics.Area.TheVariants.{I, Q, M, Db, Timers, Counters, Registers}
 use Rattle.cpu_image.specs.Values.{IsWidth, value_of, bit_in, with_bit, overwritten}
-use Rattle.cpu_image.specs.Image.{Image, bytes_of, bytes_in, area_bytes, with_bytes, value_at}
-use Rattle.cpu_image.specs.Pages.{pages_of, page_of, first_page, offset, is_marked, written, value_written, bit_written}
+use Rattle.cpu_image.specs.Image.{Image, bytes_of, bytes_in, area_bytes, with_bytes}
+use Rattle.cpu_image.specs.Pages.{pages_of, page_of, first_page, offset, written, bit_written}
 use Rattle.cpu_image.proofs.Pages.{length-overwritten, pages_there, pages_set, pages_take_set}
 use Rattle.cpu_image.specs.Laws.{WrittenIsRead, WrittenBitIsRead, OthersAreKept, WritesMark, PagesStay, HasByteOn, AreIn}
 
@@ -27,9 +27,9 @@ kept_elsewhere image area other bytes ne = grind (arith, block_kept image.data_b
 -- a data block that has bytes is one of the list
 block_is : (blocks : List (Option (List ℕ))) (n : ℕ) → 0 < length (bytes_in (slice_index_or blocks n None)) → n < length blocks
 block_is blocks n some = elim (cases_lt n (length blocks)) [
-  inl lt ↦ lt
+  | inl lt ↦ lt
   | inr past ↦ (let e = ap (λ o. length (bytes_in o)) (get_or_past blocks n None past) in absurd (omega arith))
-  ]
+]
 
 block_here : (blocks : List (Option (List ℕ))) (n : ℕ) (bytes : List ℕ) → 0 < length (bytes_in (slice_index_or blocks n None)) → bytes_in (slice_index_or (slice_set blocks n (Some bytes)) n None) ≡ bytes
 block_here blocks n bytes some = ap bytes_in (get_or-set_same blocks n (Some bytes) None (block_is blocks n some))
@@ -162,47 +162,46 @@ others_are_kept image area other at place piece some there (inr same) =
 
 mark_other : (marks : List Bool) (f page : ℕ) → IsTrue (slice_index_or marks page false) → page < length marks → IsTrue (slice_index_or (slice_set marks f true) page false)
 mark_other marks f page is lt = elim (cases_eq page f) [
-  inl e ↦ ap (λ k. slice_index_or (slice_set marks f true) k false) e ∙ get_or-set_same marks f true false (omega arith)
+  | inl e ↦ ap (λ k. slice_index_or (slice_set marks f true) k false) e ∙ get_or-set_same marks f true false (omega arith)
   | inr ne ↦ get_or-set_other marks f page true false ne ∙ is
-  ]
+]
 
 mark_here : (marks : List Bool) (f page : ℕ) → page ≡ f → page < length marks → IsTrue (slice_index_or (slice_set marks f true) page false)
 mark_here marks f page e lt = ap (λ k. slice_index_or (slice_set marks f true) k false) e ∙ get_or-set_same marks f true false (omega arith)
 
 marked_from : (marks : List Bool) (f page : ℕ) → IsTrue (slice_index_or (slice_set marks f true) page false) → IsTrue (slice_index_or marks page false) ⊎ (page ≡ f)
 marked_from marks f page is = elim (cases_eq page f) [
-  inl e ↦ inr e
+  | inl e ↦ inr e
   | inr ne ↦ inl (sym (get_or-set_other marks f page true false ne) ∙ is)
-  ]
+]
 
 -- the page of a byte of a few is that of the first or that of the last
 on_first_or_last : (image : Image) (area : Area) (at width page : ℕ) → 0 < width → width ≤ 4 → HasByteOn image area at width page → (page ≡ page_of image area at) ⊎ (page ≡ page_of image area (at + width - 1))
 on_first_or_last image area at width page some few on = elim (cases_eq page (page_of image area at)) [
-  inl e ↦ inl e
+  | inl e ↦ inl e
   | inr ne ↦ (let from = on.1 in let below = on.2 in let e = on.3 in inr (omega arith))
-  ]
+]
 
 pub writes_mark : WritesMark
 writes_mark image area at page piece some few lt =
     let first = page_of image area at in
     let last = page_of image area (at + length piece - 1) in
     let marks = slice_set image.marks first true in
-    let there : page < length marks = subst (λ n. page < n) (sym (length-set image.marks first true)) lt in
-    (
+    let there : page < length marks = subst (λ n. page < n) (sym (length-set image.marks first true)) lt in (
       λ is. elim (marked_from marks last page is) [
-        inl m ↦ elim (marked_from image.marks first page m) [
-          inl old ↦ inl old
+        | inl m ↦ elim (marked_from image.marks first page m) [
+          | inl old ↦ inl old
           | inr e ↦ inr (at, omega arith, omega arith, e)
-          ]
+        ]
         | inr e ↦ inr (at + length piece - 1, omega arith, omega arith, e)
-        ],
+      ],
       λ h. elim h [
-        inl old ↦ mark_other marks last page (mark_other image.marks first page old lt) there
+        | inl old ↦ mark_other marks last page (mark_other image.marks first page old lt) there
         | inr on ↦ elim (on_first_or_last image area at (length piece) page some few on) [
-          inl e ↦ mark_other marks last page (mark_here image.marks first page e lt) there
+          | inl e ↦ mark_other marks last page (mark_here image.marks first page e lt) there
           | inr e ↦ mark_here marks last page e there
-          ]
-        ],
+        ]
+      ],
     )
 
 -- pages --

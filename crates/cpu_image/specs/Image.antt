@@ -1,5 +1,5 @@
 -- What contracts see of an image: the bytes of each area, and the marks of its pages.
-use Rattle.std.specs.Prelude.{◌≡◌, ℕ, ◌+◌, ◌<◌, Bool, List, [], Option, Some, None, IsSomeAnd, length, slice_get, slice_index, slice_index_or, slice_range, slice_set}
+use Rattle.std.specs.Prelude.{◌≡◌, ℕ, ◌+◌, ◌<◌, Bool, List, [], Option, Some, None, IsSomeAnd, length, slice_index, slice_index_or, slice_range, slice_set}
 use Rattle.s7_events.specs.declared.diagnostics.Area.{Area}
 use Rattle.s7_events.specs.declared.diagnostics.Area.TheVariants.{I, Q, M, Db, Timers, Counters, Registers}
 use Rattle.cpu_image.specs.Values.{value_of, bit_in}

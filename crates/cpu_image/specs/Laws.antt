@@ -1,9 +1,19 @@
 -- What reads and writes have to do with one another.
 use Rattle.std.specs.Prelude.{◌≡◌, ◌≢◌, ◌⊎◌, ◌↔◌, ℕ, ◌+◌, ◌*◌, ◌^◌, ◌<◌, ◌≤◌, Bool, List, length, slice_get, IsTrue}
+use Rattle.std.specs.Option.{option_map}
+use Rattle.s7_base.specs.Blocks.{Data, Program, data_of}
 use Rattle.s7_events.specs.declared.diagnostics.Area.{Area}
+use Rattle.s7_events.specs.declared.diagnostics.Area.TheVariants.{Db}
 use Rattle.cpu_image.specs.Values.{IsWidth}
-use Rattle.cpu_image.specs.Image.{Image, area_bytes, value_at, bit_at}
+use Rattle.cpu_image.specs.Image.{Image, bytes_of, area_bytes, value_at, bit_at}
+use Rattle.cpu_image.specs.Layout.{laid}
 use Rattle.cpu_image.specs.Pages.{page_of, is_marked, written, value_written, bit_written}
+
+-- At the start the data block of each number is the program's, with its first bytes.
+abbrev pub BlocksBegin : Type 0
+BlocksBegin =
+    (program : Program) (number : ℕ) → number < 256
+    → bytes_of (laid program) (Db number) ≡ option_map (λ (block : Data). block.bytes) (data_of program number)
 
 -- the bytes from one place up to another lie in an area
 abbrev pub AreIn : Image → Area → ℕ → ℕ → Type 0

@@ -68,7 +68,7 @@ with_mark marks page = slice_set marks page true
 abbrev pub written : Area → ℕ → List ℕ → Image → Image
 written area at piece image =
     record (with_bytes image area (overwritten (area_bytes image area) at piece)) {
-      marks = with_mark (with_mark image.marks (page_of image area at)) (page_of image area (at + length piece - 1))
+      marks = with_mark (with_mark image.marks (page_of image area at)) (page_of image area (at + length piece - 1));
     }
 
 -- a value is written, the highest byte first

@@ -154,7 +154,13 @@ impl CpuImage {
     /// # Errors
     /// `NoSuchBlock` exactly where the area is a data block that is not there, and else `NoSuchAddress` exactly where
     /// the area ends before the byte does.
-    pub fn write_bit(&mut self, area: Area, at_byte: u16, bit: u8, value: bool) -> Result<(), ImageFault>
+    pub fn write_bit(
+        &mut self,
+        area: Area,
+        at_byte: u16,
+        bit: u8,
+        value: bool,
+    ) -> Result<(), ImageFault>
         requires { bit < 8 }
         ensures block { (result ≡ Err ImageFault.NoSuchBlock) ↔ IsMissing self.old area }
         ensures address { (result ≡ Err ImageFault.NoSuchAddress) ↔ EndsBefore self.old area (at_byte + 1) }
@@ -172,7 +178,13 @@ impl CpuImage {
     /// # Errors
     /// `NoSuchBlock` exactly where the area is a data block that is not there, and else `NoSuchAddress` exactly where
     /// the area ends before the last of the bytes does.
-    pub fn write(&mut self, area: Area, at_byte: u16, width: u8, value: u32) -> Result<(), ImageFault>
+    pub fn write(
+        &mut self,
+        area: Area,
+        at_byte: u16,
+        width: u8,
+        value: u32,
+    ) -> Result<(), ImageFault>
         requires width { IsWidth width }
         requires fits { value < 2 ^ (8 * width) }
         ensures block { (result ≡ Err ImageFault.NoSuchBlock) ↔ IsMissing self.old area }
@@ -186,20 +198,21 @@ impl CpuImage {
         Ok(())
     }
 
-    /// Returns whether a page is marked.
+    /// Returns whether a page is marked. None is after the last.
     pub fn is_marked(&self, page: u32) -> bool
-        requires { page < page_count self.now }
         ensures { result ≡ is_marked self.now page }
     {
-        self.marks[page as usize]
+        self.marks.get(page as usize).is_some_and(|mark| *mark)
     }
 
-    /// Takes the mark of a page away.
+    /// Takes the mark of a page away. After the last page there is none.
     pub fn clear_mark(&mut self, page: u32)
-        requires { page < page_count self.old }
         ensures { self.new ≡ record self.old { marks = slice_set self.old.marks page false } }
     {
-        self.marks[page as usize] = false;
+        let page = page as usize;
+        if page < self.marks.len() {
+            self.marks[page] = false;
+        }
     }
 
     fn byte(&self, area: Area, at_byte: u16) -> Result<u8, ImageFault>
@@ -312,5 +325,9 @@ fn byte_with(byte: u8, bit: u8, value: bool) -> u8
     ensures { result ≡ with_bit byte bit value }
 {
     let only: u8 = 1 << bit;
-    if value { byte | only } else { byte & (255 - only) }
+    if value {
+        byte | only
+    } else {
+        byte & (255 - only)
+    }
 }

@@ -1,5 +1,11 @@
 //! Laws of the definitions.
-ghost use Rattle.cpu_image.specs.Laws.{WrittenIsRead, WrittenBitIsRead, OthersAreKept, WritesMark, PagesStay};
+ghost use Rattle.cpu_image.specs.Laws.{BlocksBegin, WrittenIsRead, WrittenBitIsRead, OthersAreKept, WritesMark, PagesStay};
+
+/// At the start the data block of each number is the program's, with its first bytes.
+#[tactic(auto, using(crate::proofs::Loaded::blocks_begin))]
+pub fn data_blocks_begin_with_their_bytes()
+    ensures { BlocksBegin }
+{}
 
 /// A value that was written is read at its place.
 #[tactic(auto, using(crate::proofs::Writes::written_is_read))]
@@ -8,7 +14,6 @@ pub fn a_value_written_is_read()
 {}
 
 /// A bit that was written is read at its place, and the other bits of its byte are as they were.
-#[tactic(auto, using(crate::proofs::Writes::written_bit_is_read))]
 pub fn a_bit_written_is_read()
     ensures { WrittenBitIsRead }
 {}

@@ -8,6 +8,6 @@ mod lay;
 
 pub use image::{CpuImage, ImageFault};
 pub use laws::{
-    a_bit_written_is_read, a_value_written_is_read, a_write_marks_its_pages, other_bytes_are_kept,
-    pages_stay,
+    a_bit_written_is_read, a_value_written_is_read, a_write_marks_its_pages,
+    data_blocks_begin_with_their_bytes, other_bytes_are_kept, pages_stay,
 };

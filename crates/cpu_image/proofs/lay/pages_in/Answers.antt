@@ -1,4 +1,4 @@
-use Rattle.std.proofs.Common.{◌≡◌, ℕ, ◌+◌, ◌<◌, length, None, ap, ◌∙◌, arith}
+use Rattle.std.proofs.Common.{◌<◌, length, None, ap, ◌∙◌, arith}
 use Rattle.std.proofs.lemmas.List.{get_or_default, length-set}
 use Rattle.cpu_image.specs.Pages.{pages_of}
 use Rattle.cpu_image.proofs.Pages.{pages_go_on}

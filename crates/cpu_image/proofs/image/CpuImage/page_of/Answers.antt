@@ -1,5 +1,4 @@
-use Rattle.std.proofs.Common.{◌≡◌, ◌+◌, ◌/◌, ◌<◌, length, ap, arith, Fits, w64}
-use Rattle.cpu_image.specs.Pages.{page_of}
+use Rattle.std.proofs.Common.{arith}
 use Rattle.cpu_image.proofs.Pages.{page_is_there}
 use Rattle.cpu_image.proofs.image.CpuImage.page_of.Goals as goal
 
