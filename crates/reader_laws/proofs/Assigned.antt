@@ -15,10 +15,10 @@ use Rattle.stl_decl.specs.Elements.{index_of, indexed_at, no_index, single_at, e
 use Rattle.stl_decl.specs.Initials.{value_of_type_at}
 use Rattle.stl_decl.specs.Sections.{known, declared_name, assignment_at, assignments_by, assignments_turn, assignments_at}
 use Rattle.stl_reader.proofs.Language.{bind_ok}
-use Rattle.reader_laws.specs.Tokens.{IsSign}
+use Rattle.reader_laws.specs.Tokens.{IsSign, IsRead}
 use Rattle.reader_laws.specs.Operands.{last_of}
 use Rattle.reader_laws.specs.FirstValues.{first_value}
-use Rattle.reader_laws.specs.Sections.{begins_with, IsIndex, single, of_element, IsAssignment, of_name, AreAssignments, end, assigns, AreAssignmentsRead, AssignmentsSpelledAreRead, AssignmentsReadAreSpelled}
+use Rattle.reader_laws.specs.Sections.{begins_with, IsIndex, single, of_element, IsAssignment, of_name, AreAssignments, end, assigns, AssignmentsSpelledAreRead, AssignmentsReadAreSpelled}
 use Rattle.reader_laws.proofs.Steps.{if_not, same_ok, closing_takes, integer_takes}
 use Rattle.reader_laws.proofs.Locals.{element_is, last_closing}
 use Rattle.reader_laws.proofs.Figures.{other_sign, integer_again}
@@ -143,19 +143,19 @@ module _ (text : List ℕ) where
   abbrev behind : ℕ → Turn (Section × List Token) (Section × List Token) → Result (Section × List Token) Fault
   behind n t = elim t [ Ended a ↦ Ok a | Goes next ↦ repeated (end_fault text) (assignments_turn text) n next ]
 
-  assignments_take : (n : ℕ) (s x : Section × List Token) → repeated (end_fault text) (assignments_turn text) n s ≡ Ok x → AreAssignmentsRead text s.0 s.1 x
+  assignments_take : (n : ℕ) (s x : Section × List Token) → repeated (end_fault text) (assignments_turn text) n s ≡ Ok x → IsRead (AreAssignments text s.0) s.1 x
   unfolding repeated assignments_turn
   assignments_take zero s x e = absurd cc
   assignments_take (suc n) s x e =
       let t = bind_ok (assignments_turn text s) (behind n) x e in
       by t.0 (λ next y. assignments_take n next x y) (maybe_word_at text (codes "END_DATA_BLOCK") s.1) refl t.1 t.2
     where
-      by : (t : Turn (Section × List Token) (Section × List Token)) → ((next : Section × List Token) → repeated (end_fault text) (assignments_turn text) n next ≡ Ok x → AreAssignmentsRead text next.0 next.1 x) → (found : Option (Token × List Token)) → maybe_word_at text (codes "END_DATA_BLOCK") s.1 ≡ found → assignments_by found text s ≡ Ok t → behind n t ≡ Ok x → AreAssignmentsRead text s.0 s.1 x
+      by : (t : Turn (Section × List Token) (Section × List Token)) → ((next : Section × List Token) → repeated (end_fault text) (assignments_turn text) n next ≡ Ok x → IsRead (AreAssignments text next.0) next.1 x) → (found : Option (Token × List Token)) → maybe_word_at text (codes "END_DATA_BLOCK") s.1 ≡ found → assignments_by found text s ≡ Ok t → behind n t ≡ Ok x → IsRead (AreAssignments text s.0) s.1 x
       by t again (Some y) is e f =
           let w = word_found text (codes "END_DATA_BLOCK") s.1 y is in
           let turn : Turn (Section × List Token) (Section × List Token) = Ended (s.0, y.1) in
           let same = same_ok (s.0, y.1) x (ap (behind n) (same_ok turn t e) ∙ f) in
-          subst (AreAssignmentsRead text s.0 s.1) same (record { front = y.0 ∷ []; cut = w.0; spelled = end s.0 y.0 w.1 })
+          subst (IsRead (AreAssignments text s.0) s.1) same (record { front = y.0 ∷ []; cut = w.0; spelled = end s.0 y.0 w.1 })
       by t again None is e f =
           let v = bind_ok (assignment_at text s.0 s.1) (λ v. let q : Result (Turn (Section × List Token) (Section × List Token)) Fault = Ok (Goes (assigned s.0 v.0, v.1)) in q) t e in
           let turn : Turn (Section × List Token) (Section × List Token) = Goes (assigned s.0 v.0.0, v.0.1) in

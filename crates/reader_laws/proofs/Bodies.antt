@@ -26,10 +26,10 @@ use Rattle.stl_reader.specs.Statements.{statement_at}
 use Rattle.stl_reader.specs.Items.{end_word, block_locals, label_by, label_at, bare, labelled_item, labelled_at, second_label, behind_label, item_by, item_at, is_heading, part_at}
 use Rattle.stl_reader.specs.Reading.{empty, adds, turned, body_turn, parts_in}
 use Rattle.stl_reader.proofs.Language.{bind_ok}
-use Rattle.reader_laws.specs.Tokens.{IsSign}
+use Rattle.reader_laws.specs.Tokens.{IsSign, IsRead}
 use Rattle.reader_laws.specs.Statements.{IsMnemonic, in_one, in_two, IsStatement, of_row}
 use Rattle.reader_laws.specs.Sections.{begins_with}
-use Rattle.reader_laws.specs.Bodies.{IsLabel, of_word, is_label, IsStated, nothing, statement, IsInside, IsBodyPart, heading, unlabelled, labelled, AreBodyParts, ended, last_label, one_part, IsBodyRead, BodiesSpelledAreRead, BodiesReadAreSpelled}
+use Rattle.reader_laws.specs.Bodies.{IsLabel, of_word, is_label, IsStated, nothing, statement, IsInside, IsBodyPart, heading, unlabelled, labelled, AreBodyParts, ended, last_label, one_part, BodiesSpelledAreRead, BodiesReadAreSpelled}
 use Rattle.reader_laws.proofs.Steps.{same_ok}
 use Rattle.reader_laws.proofs.FirstValues.{sign_kind}
 use Rattle.reader_laws.proofs.Statements.{statement_takes}
@@ -314,7 +314,7 @@ module _ (text : List ℕ) (kind : CodeKind) (temps : Section) where
   abbrev further : ℕ → Turn (Contents × List Token) (Contents × List Token) → Result (Contents × List Token) Fault
   further n t = elim t [ Ended a ↦ Ok a | Goes next ↦ repeated (end_fault text) (body_turn text kind temps) n next ]
 
-  parts_take : (n : ℕ) (s x : Contents × List Token) → repeated (end_fault text) (body_turn text kind temps) n s ≡ Ok x → IsBodyRead text kind temps s.0 s.1 x
+  parts_take : (n : ℕ) (s x : Contents × List Token) → repeated (end_fault text) (body_turn text kind temps) n s ≡ Ok x → IsRead (AreBodyParts text kind temps s.0) s.1 x
   unfolding repeated body_turn
   parts_take zero s x e = absurd cc
   parts_take (suc n) s x e =
@@ -322,9 +322,9 @@ module _ (text : List ℕ) (kind : CodeKind) (temps : Section) where
       let p = bind_ok (part_at text kind temps s.1) (λ p. let r : Result (Turn (Contents × List Token) (Contents × List Token)) Fault = Ok (turned p.0 s.0 p.1) in r) t.0 t.1 in
       by p.0.0 p.0.1 (λ next y. parts_take n next x y) (part_takes s.1 p.0 p.1) (ap (further n) (same_ok (turned p.0.0 s.0 p.0.1) t.0 p.2) ∙ t.2)
     where
-      by : (o : Option Item) (rest : List Token) → ((next : Contents × List Token) → repeated (end_fault text) (body_turn text kind temps) n next ≡ Ok x → IsBodyRead text kind temps next.0 next.1 x) → Takes s.1 rest o → further n (turned o s.0 rest) ≡ Ok x → IsBodyRead text kind temps s.0 s.1 x
+      by : (o : Option Item) (rest : List Token) → ((next : Contents × List Token) → repeated (end_fault text) (body_turn text kind temps) n next ≡ Ok x → IsRead (AreBodyParts text kind temps next.0) next.1 x) → Takes s.1 rest o → further n (turned o s.0 rest) ≡ Ok x → IsRead (AreBodyParts text kind temps s.0) s.1 x
       by o rest again (the_end w cut is) e =
-          subst (IsBodyRead text kind temps s.0 s.1) (same_ok (s.0, rest) x e) (record { front = w ∷ []; cut = cut; spelled = ended s.0 w is })
+          subst (IsRead (AreBodyParts text kind temps s.0) s.1) (same_ok (s.0, rest) x e) (record { front = w ∷ []; cut = cut; spelled = ended s.0 w is })
       by o rest again (a_part item ts cut h) e =
           let r = again (adds s.0 item, rest) e in
           record {

@@ -16,10 +16,10 @@ use Rattle.stl_decl.specs.Layout.{Section, Declared, variable_of}
 use Rattle.stl_decl.specs.Steps.{spelling, upper, fault_at, unfit, is_word_kind, is_sign, name_at, sign_at, semicolon_at, maybe_sign_at}
 use Rattle.stl_decl.specs.Declarations.{is_attribute_kind, skip_attribute, undeclared, fresh_name, given_at, initial_values_by, initial_values_at, placed, shape_at, declaration_at}
 use Rattle.stl_reader.proofs.Language.{bind_ok}
-use Rattle.reader_laws.specs.Tokens.{IsSign}
+use Rattle.reader_laws.specs.Tokens.{IsSign, IsRead}
 use Rattle.reader_laws.specs.Operands.{last_of}
 use Rattle.reader_laws.specs.FirstValues.{AreFirstValues}
-use Rattle.reader_laws.specs.Declared.{IsAttribute, none, one, next_place, IsInitialized, nothing, given, IsDeclaration, of_name, IsDeclarationRead, DeclarationsSpelledAreRead, DeclarationsReadAreSpelled}
+use Rattle.reader_laws.specs.Declared.{IsAttribute, none, one, next_place, IsInitialized, nothing, given, IsDeclaration, of_name, DeclarationsSpelledAreRead, DeclarationsReadAreSpelled}
 use Rattle.reader_laws.proofs.Steps.{if_ok, same_ok, TakesToken, closing_takes}
 use Rattle.reader_laws.proofs.Figures.{other_sign}
 use Rattle.reader_laws.proofs.Types.{type_read}
@@ -165,7 +165,7 @@ declaration_takes turns text kind section tokens x e =
     let tail : s.0.2 ≡ (vt.front ++ rt.semicolon ∷ []) ++ r.0 = vt.cut ∙ (ap (λ q. vt.front ++ q) rt.cut ∙ sym (append_assoc vt.front (rt.semicolon ∷ []) r.0)) in
     let mid : c.0.1 ≡ (st.front ++ (vt.front ++ rt.semicolon ∷ [])) ++ r.0 = st.cut ∙ (ap (λ q. st.front ++ q) tail ∙ sym (append_assoc st.front (vt.front ++ rt.semicolon ∷ []) r.0)) in
     let all : f.0.1 ≡ (at.front ++ c.0.0 ∷ (st.front ++ (vt.front ++ rt.semicolon ∷ []))) ++ r.0 = at.cut ∙ (ap (λ q. at.front ++ c.0.0 ∷ q) mid ∙ sym (append_assoc at.front (c.0.0 ∷ (st.front ++ (vt.front ++ rt.semicolon ∷ []))) r.0)) in
-    subst (IsDeclarationRead text kind section tokens) same (record {
+    subst (IsRead (IsDeclaration text kind section) tokens) same (record {
       front = f.0.0 ∷ (at.front ++ c.0.0 ∷ (st.front ++ (vt.front ++ rt.semicolon ∷ [])));
       cut = ft.cut ∙ ap (λ q. f.0.0 ∷ q) all;
       spelled = subst (λ name. IsDeclaration text kind section (record { name = name; variable = place; values = v.0.0 }) (f.0.0 ∷ (at.front ++ c.0.0 ∷ (st.front ++ (vt.front ++ rt.semicolon ∷ []))))) nt.1

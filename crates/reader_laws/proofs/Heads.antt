@@ -19,8 +19,8 @@ use Rattle.block_loader.specs.declared.heads.BlockKind.TheVariants.{Code, Data}
 use Rattle.block_loader.specs.declared.heads.Heading.{Heading}
 use Rattle.block_loader.specs.Heads.{kind_of, kind_by, kind_at, kind_word, numbered, type_at, void_at, result_at, heading_at, is_owner_kind, owner_at, is_owner, is_note_kind, is_plain_head, entry_at, version_at, head_at, heads_by, heads_turn, heads_at}
 use Rattle.stl_reader.proofs.Language.{bind_ok}
-use Rattle.reader_laws.specs.Tokens.{IsSign}
-use Rattle.reader_laws.specs.Heads.{opening_word, short_word, may_have, IsResult, of_function, of_ob, of_fb, of_data, IsHeading, of_kind, IsHeadingRead, HeadingsSpelledAreRead, HeadingsReadAreSpelled, is_note, is_owner_word, IsHead, of_note, of_owner, of_version, AreHeads, no_head, one_head, AreHeadsRead, begins_head, HeadsReadAreSpelled, HeadsSpelledAreRead}
+use Rattle.reader_laws.specs.Tokens.{IsSign, IsRead}
+use Rattle.reader_laws.specs.Heads.{opening_word, short_word, may_have, IsResult, of_function, of_ob, of_fb, of_data, IsHeading, of_kind, HeadingsSpelledAreRead, HeadingsReadAreSpelled, is_note, is_owner_word, IsHead, of_note, of_owner, of_version, AreHeads, no_head, one_head, AreHeadsRead, begins_head, HeadsReadAreSpelled, HeadsSpelledAreRead}
 use Rattle.reader_laws.proofs.Steps.{if_ok, if_not, same_ok, TakesToken, closing_takes}
 use Rattle.reader_laws.proofs.Typed.{of_takes}
 
@@ -166,7 +166,7 @@ heading_takes text tokens x e =
     let short : is_word text w.0.0 (short_word k.0.0) ≡ true = subst (λ word. is_word text w.0.0 word ≡ true) (sym (same_word text k.0.0)) wt.is in
     let has : may_have k.0.0 (number_of text n.0.1) ≡ true = subst (λ v. may_have k.0.0 v ≡ true) (sym nt.value) mt.0 in
     let made = of_kind k.0.0 k.0.1 w.0.0 n.0.1 rt.front kt.word short nt.kind has rt.result in
-    subst (IsHeadingRead text tokens) (same_ok (record { kind = k.0.0; number = m.0; line = k.0.1.line; column = k.0.1.column }, r.0) x r.2) (record {
+    subst (IsRead (IsHeading text) tokens) (same_ok (record { kind = k.0.0; number = m.0; line = k.0.1.line; column = k.0.1.column }, r.0) x r.2) (record {
       front = k.0.1 ∷ w.0.0 ∷ n.0.1 ∷ rt.front;
       cut = kt.cut ∙ ap (λ q. k.0.1 ∷ q) (wt.cut ∙ ap (λ q. w.0.0 ∷ q) (nt.cut ∙ ap (λ q. n.0.1 ∷ q) rt.cut));
       spelled = subst (λ v. IsHeading text (record { kind = k.0.0; number = v; line = k.0.1.line; column = k.0.1.column }) (k.0.1 ∷ w.0.0 ∷ n.0.1 ∷ rt.front)) value made;

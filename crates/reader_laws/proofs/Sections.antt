@@ -13,9 +13,9 @@ use Rattle.stl_decl.specs.Repeat.{Turn, Ended, Goes, repeated}
 use Rattle.stl_decl.specs.Declarations.{declaration_at}
 use Rattle.stl_decl.specs.Sections.{end_word, section_by, section_turn, section_at, is_other_section, no_section_at, temporaries_by, temporaries_turn, temporaries_at, is_left_out, opening_at, skip_semicolon, structure_at}
 use Rattle.stl_reader.proofs.Language.{bind_ok}
-use Rattle.reader_laws.specs.Tokens.{IsSign}
+use Rattle.reader_laws.specs.Tokens.{IsSign, IsRead}
 use Rattle.reader_laws.specs.Declared.{IsDeclaration, of_name}
-use Rattle.reader_laws.specs.Sections.{begins_with, AreDeclarations, no_more, one_more, IsSection, of_declarations, IsSectionRead, SectionsSpelledAreRead, SectionsReadAreSpelled, AreTemporaries, no_section, one_section, begins_section, AreTemporariesRead, TemporariesSpelledAreRead, TemporariesReadAreSpelled, IsSemicolon, without, with_one, IsStructure, of_section, begins_sign, IsStructureRead, StructuresSpelledAreRead, StructuresReadAreSpelled}
+use Rattle.reader_laws.specs.Sections.{begins_with, AreDeclarations, no_more, one_more, IsSection, of_declarations, SectionsSpelledAreRead, SectionsReadAreSpelled, AreTemporaries, no_section, one_section, begins_section, AreTemporariesRead, TemporariesSpelledAreRead, TemporariesReadAreSpelled, IsSemicolon, without, with_one, IsStructure, of_section, begins_sign, StructuresSpelledAreRead, StructuresReadAreSpelled}
 use Rattle.reader_laws.proofs.Steps.{if_ok, if_not, same_ok, TakesToken}
 use Rattle.reader_laws.proofs.Declared.{declaration_read, declaration_takes}
 
@@ -72,29 +72,29 @@ module _ (text : List ℕ) (kind : SectionKind) (turns : ℕ) where
   behind n t = elim t [ Ended a ↦ Ok a | Goes next ↦ repeated (end_fault text) (section_turn turns text kind) n next ]
 
   -- a declaration before a section
-  with_declaration : (s : Section) (d : Declared) (ts tokens more : List Token) (x : Section × List Token) → IsDeclaration text kind s d ts → begins_with text (end_word kind) ts ≡ false → tokens ≡ ts ++ more → IsSectionRead text kind (added s d) more x → IsSectionRead text kind s tokens x
+  with_declaration : (s : Section) (d : Declared) (ts tokens more : List Token) (x : Section × List Token) → IsDeclaration text kind s d ts → begins_with text (end_word kind) ts ≡ false → tokens ≡ ts ++ more → IsRead (IsSection text kind (added s d)) more x → IsRead (IsSection text kind s) tokens x
   with_declaration s d ts tokens more x h first cut r = by r.front r.cut r.spelled
     where
-      by : (front : List Token) → more ≡ front ++ x.1 → IsSection text kind (added s d) x.0 front → IsSectionRead text kind s tokens x
+      by : (front : List Token) → more ≡ front ++ x.1 → IsSection text kind (added s d) x.0 front → IsRead (IsSection text kind s) tokens x
       by front split (of_declarations us end others is) = record {
         front = (ts ++ us) ++ end ∷ [];
         cut = cut ∙ (ap (λ q. ts ++ q) (split ∙ append_assoc us (end ∷ []) x.1) ∙ (sym (append_assoc ts us (end ∷ x.1)) ∙ sym (append_assoc (ts ++ us) (end ∷ []) x.1)));
         spelled = of_declarations (ts ++ us) end (one_more s x.0 d ts us h first others) is;
       }
 
-  declarations_take : (n : ℕ) (s : Section × List Token) (x : Section × List Token) → repeated (end_fault text) (section_turn turns text kind) n s ≡ Ok x → IsSectionRead text kind s.0 s.1 x
+  declarations_take : (n : ℕ) (s : Section × List Token) (x : Section × List Token) → repeated (end_fault text) (section_turn turns text kind) n s ≡ Ok x → IsRead (IsSection text kind s.0) s.1 x
   unfolding repeated section_turn
   declarations_take zero s x e = absurd cc
   declarations_take (suc n) s x e =
       let t = bind_ok (section_turn turns text kind s) (behind n) x e in
       by t.0 (λ next y. declarations_take n next x y) (maybe_word_at text (end_word kind) s.1) refl t.1 t.2
     where
-      by : (t : Turn (Section × List Token) (Section × List Token)) → ((next : Section × List Token) → repeated (end_fault text) (section_turn turns text kind) n next ≡ Ok x → IsSectionRead text kind next.0 next.1 x) → (found : Option (Token × List Token)) → maybe_word_at text (end_word kind) s.1 ≡ found → section_by found turns text kind s ≡ Ok t → behind n t ≡ Ok x → IsSectionRead text kind s.0 s.1 x
+      by : (t : Turn (Section × List Token) (Section × List Token)) → ((next : Section × List Token) → repeated (end_fault text) (section_turn turns text kind) n next ≡ Ok x → IsRead (IsSection text kind next.0) next.1 x) → (found : Option (Token × List Token)) → maybe_word_at text (end_word kind) s.1 ≡ found → section_by found turns text kind s ≡ Ok t → behind n t ≡ Ok x → IsRead (IsSection text kind s.0) s.1 x
       by t again (Some y) is e f =
           let w = word_found text (end_word kind) s.1 y is in
           let turn : Turn (Section × List Token) (Section × List Token) = Ended (s.0, y.1) in
           let same = same_ok (s.0, y.1) x (ap (behind n) (same_ok turn t e) ∙ f) in
-          subst (IsSectionRead text kind s.0 s.1) same (record { front = y.0 ∷ []; cut = w.0; spelled = of_declarations [] y.0 (no_more s.0) w.1 })
+          subst (IsRead (IsSection text kind s.0) s.1) same (record { front = y.0 ∷ []; cut = w.0; spelled = of_declarations [] y.0 (no_more s.0) w.1 })
       by t again None is e f =
           let d = bind_ok (declaration_at turns text kind s.0 s.1) (λ d. let r : Result (Turn (Section × List Token) (Section × List Token)) Fault = Ok (Goes (added s.0 d.0, d.1)) in r) t e in
           let turn : Turn (Section × List Token) (Section × List Token) = Goes (added s.0 d.0.0, d.0.1) in
@@ -215,7 +215,7 @@ structure_takes turns text tokens x e =
     let st = section_takes turns text Structure empty_section o.0.1 s.0 s.1 in
     let k = skips text s.0.1 in
     let all : o.0.1 ≡ (st.front ++ k.front) ++ skip_semicolon text s.0.1 = st.cut ∙ (ap (λ q. st.front ++ q) k.cut ∙ sym (append_assoc st.front k.front (skip_semicolon text s.0.1))) in
-    subst (IsStructureRead text tokens) (same_ok (s.0.0, skip_semicolon text s.0.1) x s.2) (record {
+    subst (IsRead (IsStructure text) tokens) (same_ok (s.0.0, skip_semicolon text s.0.1) x s.2) (record {
       front = o.0.0 ∷ (st.front ++ k.front);
       cut = ot.cut ∙ ap (λ q. o.0.0 ∷ q) all;
       spelled = of_section o.0.0 st.front k.front ot.is st.spelled k.semicolon;

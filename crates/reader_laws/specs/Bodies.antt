@@ -12,7 +12,7 @@ use Rattle.stl_reader.specs.Contents.{Contents}
 use Rattle.stl_reader.specs.Operands.{label_name}
 use Rattle.stl_reader.specs.Items.{end_word, block_locals, bare, is_heading}
 use Rattle.stl_reader.specs.Reading.{empty, adds, parts_in}
-use Rattle.reader_laws.specs.Tokens.{IsSign}
+use Rattle.reader_laws.specs.Tokens.{IsSign, IsRead}
 use Rattle.reader_laws.specs.Statements.{IsStatement}
 use Rattle.reader_laws.specs.Sections.{begins_with}
 
@@ -52,14 +52,8 @@ BodiesSpelledAreRead =
     (turns : ℕ) (text : List ℕ) (kind : CodeKind) (temps : Section) (c : Contents) (front rest : List Token)
     → AreBodyParts text kind temps empty c front → length front < turns → parts_in turns text kind temps (front ++ rest) ≡ Ok (c, rest)
 
--- what was read as a body is spelled by the tokens that it took
-pub record IsBodyRead (text : List ℕ) (kind : CodeKind) (temps : Section) (b : Contents) (tokens : List Token) (x : Contents × List Token) : Type 0 where
-  pub front : List Token
-  pub cut : tokens ≡ front ++ x.1
-  pub spelled : AreBodyParts text kind temps b x.0 front
-
 -- what is read as a body is spelled so
 abbrev pub BodiesReadAreSpelled : Type 0
 BodiesReadAreSpelled =
     (turns : ℕ) (text : List ℕ) (kind : CodeKind) (temps : Section) (tokens : List Token) (x : Contents × List Token)
-    → parts_in turns text kind temps tokens ≡ Ok x → IsBodyRead text kind temps empty tokens x
+    → parts_in turns text kind temps tokens ≡ Ok x → IsRead (AreBodyParts text kind temps empty) tokens x

@@ -11,7 +11,7 @@ use Rattle.stl_decl.specs.Types.{first_bit}
 use Rattle.stl_decl.specs.Layout.{Section, Declared, variable_of}
 use Rattle.stl_decl.specs.Steps.{spelling, upper, is_word_kind}
 use Rattle.stl_decl.specs.Declarations.{declaration_at}
-use Rattle.reader_laws.specs.Tokens.{IsSign}
+use Rattle.reader_laws.specs.Tokens.{IsSign, IsRead}
 use Rattle.reader_laws.specs.Types.{IsType}
 use Rattle.reader_laws.specs.FirstValues.{AreFirstValues}
 
@@ -39,14 +39,8 @@ DeclarationsSpelledAreRead =
     (turns : ℕ) (text : List ℕ) (kind : SectionKind) (section : Section) (d : Declared) (front rest : List Token)
     → IsDeclaration text kind section d front → length front < turns → declaration_at turns text kind section (front ++ rest) ≡ Ok (d, rest)
 
--- what was read as a declaration is spelled by the tokens that it took
-pub record IsDeclarationRead (text : List ℕ) (kind : SectionKind) (section : Section) (tokens : List Token) (x : Declared × List Token) : Type 0 where
-  pub front : List Token
-  pub cut : tokens ≡ front ++ x.1
-  pub spelled : IsDeclaration text kind section x.0 front
-
 -- what is read as a declaration is spelled so
 abbrev pub DeclarationsReadAreSpelled : Type 0
 DeclarationsReadAreSpelled =
     (turns : ℕ) (text : List ℕ) (kind : SectionKind) (section : Section) (tokens : List Token) (x : Declared × List Token)
-    → declaration_at turns text kind section tokens ≡ Ok x → IsDeclarationRead text kind section tokens x
+    → declaration_at turns text kind section tokens ≡ Ok x → IsRead (IsDeclaration text kind section) tokens x

@@ -8,7 +8,7 @@ use Rattle.block_loader.specs.declared.heads.BlockKind.{BlockKind}
 use Rattle.block_loader.specs.declared.heads.BlockKind.TheVariants.{Code, Data}
 use Rattle.block_loader.specs.declared.heads.Heading.{Heading}
 use Rattle.block_loader.specs.Heads.{is_note_kind, is_owner_kind, heading_at, heads_at}
-use Rattle.reader_laws.specs.Tokens.{IsSign}
+use Rattle.reader_laws.specs.Tokens.{IsSign, IsRead}
 
 -- the word that a block of the kind begins with
 abbrev pub opening_word : BlockKind → List ℕ
@@ -46,15 +46,9 @@ pub data IsHeading (text : List ℕ) : Heading → List Token → Type 0 where
 abbrev pub HeadingsSpelledAreRead : Type 0
 HeadingsSpelledAreRead = (text : List ℕ) (heading : Heading) (front rest : List Token) → IsHeading text heading front → heading_at text (front ++ rest) ≡ Ok (heading, rest)
 
--- what was read as the first line of a block is spelled by the tokens that it took
-pub record IsHeadingRead (text : List ℕ) (tokens : List Token) (x : Heading × List Token) : Type 0 where
-  pub front : List Token
-  pub cut : tokens ≡ front ++ x.1
-  pub spelled : IsHeading text x.0 front
-
 -- what is read as the first line of a block is spelled so
 abbrev pub HeadingsReadAreSpelled : Type 0
-HeadingsReadAreSpelled = (text : List ℕ) (tokens : List Token) (x : Heading × List Token) → heading_at text tokens ≡ Ok x → IsHeadingRead text tokens x
+HeadingsReadAreSpelled = (text : List ℕ) (tokens : List Token) (x : Heading × List Token) → heading_at text tokens ≡ Ok x → IsRead (IsHeading text) tokens x
 
 -- a token that is a head by itself: a title, an attribute or KNOW_HOW_PROTECT
 abbrev pub is_note : List ℕ → Token → Bool

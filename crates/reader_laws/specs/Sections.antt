@@ -10,7 +10,7 @@ use Rattle.stl_decl.specs.Layout.{Section, Declared, empty_section, added, assig
 use Rattle.stl_decl.specs.Steps.{spelling, upper, is_word_kind, is_word, is_sign}
 use Rattle.stl_decl.specs.Constants.{suits}
 use Rattle.stl_decl.specs.Sections.{end_word, is_other_section, section_at, temporaries_at, structure_at, assignments_at}
-use Rattle.reader_laws.specs.Tokens.{IsSign}
+use Rattle.reader_laws.specs.Tokens.{IsSign, IsRead}
 use Rattle.reader_laws.specs.Operands.{IsInteger, IsElement}
 use Rattle.reader_laws.specs.Values.{IsConstant}
 use Rattle.reader_laws.specs.FirstValues.{first_value}
@@ -37,17 +37,11 @@ SectionsSpelledAreRead =
     (turns : ℕ) (text : List ℕ) (kind : SectionKind) (s t : Section) (front rest : List Token)
     → IsSection text kind s t front → length front < turns → section_at turns text kind s (front ++ rest) ≡ Ok (t, rest)
 
--- what was read as a section is spelled by the tokens that it took
-pub record IsSectionRead (text : List ℕ) (kind : SectionKind) (s : Section) (tokens : List Token) (x : Section × List Token) : Type 0 where
-  pub front : List Token
-  pub cut : tokens ≡ front ++ x.1
-  pub spelled : IsSection text kind s x.0 front
-
 -- what is read as a section is spelled so
 abbrev pub SectionsReadAreSpelled : Type 0
 SectionsReadAreSpelled =
     (turns : ℕ) (text : List ℕ) (kind : SectionKind) (s : Section) (tokens : List Token) (x : Section × List Token)
-    → section_at turns text kind s tokens ≡ Ok x → IsSectionRead text kind s tokens x
+    → section_at turns text kind s tokens ≡ Ok x → IsRead (IsSection text kind s) tokens x
 
 -- { "VAR_TEMP" { decl } "END_VAR" }, from the names before to the names with them
 pub data AreTemporaries (text : List ℕ) : Section → Section → List Token → Type 0 where
@@ -97,16 +91,10 @@ StructuresSpelledAreRead =
     (turns : ℕ) (text : List ℕ) (section : Section) (front rest : List Token)
     → IsStructure text section front → begins_sign text (codes ";") rest ≡ false → length front < turns → structure_at turns text (front ++ rest) ≡ Ok (section, rest)
 
--- what was read as the names of a data block is spelled by the tokens that it took
-pub record IsStructureRead (text : List ℕ) (tokens : List Token) (x : Section × List Token) : Type 0 where
-  pub front : List Token
-  pub cut : tokens ≡ front ++ x.1
-  pub spelled : IsStructure text x.0 front
-
 -- what is read as the names of a data block is spelled so
 abbrev pub StructuresReadAreSpelled : Type 0
 StructuresReadAreSpelled =
-    (turns : ℕ) (text : List ℕ) (tokens : List Token) (x : Section × List Token) → structure_at turns text tokens ≡ Ok x → IsStructureRead text tokens x
+    (turns : ℕ) (text : List ℕ) (tokens : List Token) (x : Section × List Token) → structure_at turns text tokens ≡ Ok x → IsRead (IsStructure text) tokens x
 
 -- what stands behind a name: nothing behind one that is no array, or the index of the element that stands k behind the first
 pub data IsIndex (text : List ℕ) (place : Place) : ℕ → List Token → Type 0 where
@@ -129,13 +117,7 @@ AssignmentsSpelledAreRead =
     (turns : ℕ) (text : List ℕ) (s t : Section) (front rest : List Token)
     → AreAssignments text s t front → length front < turns → assignments_at turns text s (front ++ rest) ≡ Ok (t, rest)
 
--- what was read as the assignments of a data block is spelled by the tokens that it took
-pub record AreAssignmentsRead (text : List ℕ) (s : Section) (tokens : List Token) (x : Section × List Token) : Type 0 where
-  pub front : List Token
-  pub cut : tokens ≡ front ++ x.1
-  pub spelled : AreAssignments text s x.0 front
-
 -- what is read as the assignments of a data block is spelled so
 abbrev pub AssignmentsReadAreSpelled : Type 0
 AssignmentsReadAreSpelled =
-    (turns : ℕ) (text : List ℕ) (s : Section) (tokens : List Token) (x : Section × List Token) → assignments_at turns text s tokens ≡ Ok x → AreAssignmentsRead text s tokens x
+    (turns : ℕ) (text : List ℕ) (s : Section) (tokens : List Token) (x : Section × List Token) → assignments_at turns text s tokens ≡ Ok x → IsRead (AreAssignments text s) tokens x
