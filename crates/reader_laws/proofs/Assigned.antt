@@ -1,30 +1,27 @@
 -- Assignments of a data block: what is spelled so is read, and what is read is spelled so.
-use Rattle.std.proofs.Common.{◌≡◌, ◌<◌, ◌≤◌, ◌+◌, ℕ, zero, suc, List, [], ◌∷◌, ◌++◌, length, refl, subst, ap, sym, ◌∙◌, Bool, true, false, cond, arith, append_assoc, length-append}
-use Rattle.std.specs.Prelude.{Result, Ok, Err, Option, Some, None, codes}
+use Rattle.std.proofs.Common.{◌≡◌, ◌<◌, ◌+◌, ℕ, zero, suc, List, [], ◌∷◌, ◌++◌, length, refl, subst, ap, sym, ◌∙◌, false, arith, append_assoc, length-append}
+use Rattle.std.specs.Prelude.{Result, Ok, Option, Some, None, codes}
 use Rattle.stl_lex.specs.declared.token.Token.{Token}
 use Rattle.stl_decl.specs.declared.fault.Fault.{Fault}
-use Rattle.stl_decl.specs.declared.steps.SignedNumber.{SignedNumber}
-use Rattle.stl_decl.specs.declared.types.Shape.{Shape}
 use Rattle.stl_decl.specs.declared.layout.FirstValue.{FirstValue}
 use Rattle.stl_decl.specs.Places.{Place}
 use Rattle.stl_decl.specs.Types.{bits_of, element_bit}
 use Rattle.stl_decl.specs.Layout.{Section, assigned, variable_of}
-use Rattle.stl_decl.specs.Steps.{spelling, upper, end_fault, is_sign, is_word, name_at, sign_at, semicolon_at, integer_at, maybe_sign_at, maybe_word_at}
+use Rattle.stl_decl.specs.Steps.{spelling, upper, end_fault, name_at, sign_at, semicolon_at, integer_at, maybe_sign_at, maybe_word_at}
 use Rattle.stl_decl.specs.Repeat.{Turn, Ended, Goes, repeated}
-use Rattle.stl_decl.specs.Elements.{index_of, indexed_at, no_index, single_at, element_by, element_at}
+use Rattle.stl_decl.specs.Elements.{index_of, indexed_at, no_index, element_by, element_at}
 use Rattle.stl_decl.specs.Initials.{value_of_type_at}
 use Rattle.stl_decl.specs.Sections.{known, declared_name, assignment_at, assignments_by, assignments_turn, assignments_at}
 use Rattle.stl_reader.proofs.Language.{bind_ok}
 use Rattle.reader_laws.specs.Tokens.{IsSign, IsRead}
 use Rattle.reader_laws.specs.Operands.{last_of}
-use Rattle.reader_laws.specs.FirstValues.{first_value}
 use Rattle.reader_laws.specs.Sections.{begins_with, IsIndex, single, of_element, IsAssignment, of_name, AreAssignments, end, assigns, AssignmentsSpelledAreRead, AssignmentsReadAreSpelled}
 use Rattle.reader_laws.proofs.Steps.{if_not, same_ok, closing_takes, integer_takes}
 use Rattle.reader_laws.proofs.Locals.{element_is, last_closing}
 use Rattle.reader_laws.proofs.Figures.{other_sign, integer_again}
 use Rattle.reader_laws.proofs.Named.{index_again}
 use Rattle.reader_laws.proofs.Values.{value_read, value_spelled}
-use Rattle.reader_laws.proofs.Declared.{name_again, semicolon_again, name_takes, TakesSemicolon, semicolon_takes}
+use Rattle.reader_laws.proofs.Declared.{name_again, name_takes, semicolon_takes}
 use Rattle.reader_laws.proofs.FirstValues.{maybe_takes}
 use Rattle.reader_laws.proofs.Sections.{word_found, no_word}
 

@@ -1,9 +1,9 @@
 -- Bodies: what is spelled so is read, and what is read is spelled so.
-use Rattle.std.proofs.Common.{◌≡◌, ◌<◌, ◌+◌, ℕ, zero, suc, List, [], ◌∷◌, ◌++◌, length, map, refl, subst, ap, sym, ◌∙◌, Bool, true, false, cond, ◌&&◌, arith, append_assoc, length-append}
-use Rattle.std.specs.Prelude.{Result, Ok, Err, Option, Some, None, codes}
+use Rattle.std.proofs.Common.{◌≡◌, ◌<◌, ◌+◌, ℕ, zero, suc, List, [], ◌∷◌, ◌++◌, length, refl, subst, ap, sym, ◌∙◌, Bool, true, false, cond, ◌&&◌, arith, append_assoc, length-append}
+use Rattle.std.specs.Prelude.{Result, Ok, Option, Some, None, codes}
 use Rattle.std.specs.Option.{is_some}
-use Rattle.std.specs.Str.{bytes_eq, str_to_ascii_lowercase}
-use Rattle.std.proofs.lemmas.Bool.{and_parts, and_from}
+use Rattle.std.specs.Str.{str_to_ascii_lowercase}
+use Rattle.std.proofs.lemmas.Bool.{and_parts}
 use Rattle.std.proofs.lemmas.List.{length-map}
 use Rattle.std.proofs.lemmas.Slice.Eq.{bytes_eq-Decides}
 use Rattle.s7_base.specs.declared.statement.Statement.{Statement}
@@ -24,7 +24,7 @@ use Rattle.stl_reader.specs.Contents.{Contents}
 use Rattle.stl_reader.specs.Operands.{label_name}
 use Rattle.stl_reader.specs.Statements.{statement_at}
 use Rattle.stl_reader.specs.Items.{end_word, block_locals, label_by, label_at, bare, labelled_item, labelled_at, second_label, behind_label, item_by, item_at, is_heading, part_at}
-use Rattle.stl_reader.specs.Reading.{empty, adds, turned, body_turn, parts_in}
+use Rattle.stl_reader.specs.Reading.{empty, adds, turned, body_turn}
 use Rattle.stl_reader.proofs.Language.{bind_ok}
 use Rattle.reader_laws.specs.Tokens.{IsSign, IsRead}
 use Rattle.reader_laws.specs.Statements.{IsMnemonic, in_one, in_two, IsStatement, of_row}

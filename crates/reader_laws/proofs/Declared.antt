@@ -1,18 +1,15 @@
 -- Declarations: what is spelled so is read, and what is read is spelled so.
-use Rattle.std.proofs.Common.{◌≡◌, ◌<◌, ◌+◌, ℕ, suc, List, [], ◌∷◌, ◌++◌, length, refl, subst, ap, sym, ◌∙◌, Bool, true, false, cond, arith, append_assoc, length-append}
-use Rattle.std.specs.Prelude.{Result, Ok, Err, Option, Some, None, codes}
-use Rattle.std.proofs.lemmas.Bool.{and_parts}
+use Rattle.std.proofs.Common.{◌≡◌, ◌<◌, ℕ, List, [], ◌∷◌, ◌++◌, length, refl, subst, ap, sym, ◌∙◌, Bool, true, false, cond, arith, append_assoc, length-append}
+use Rattle.std.specs.Prelude.{Ok, Option, Some, None, codes}
 use Rattle.stl_lex.specs.declared.piece.TokenKind.{TokenKind}
 use Rattle.stl_lex.specs.declared.piece.TokenKind.TheVariants as kinds
 use Rattle.stl_lex.specs.declared.token.Token.{Token}
-use Rattle.stl_decl.specs.declared.fault.Fault.{Fault}
-use Rattle.stl_decl.specs.declared.fault.FaultKind.TheVariants.{DoubleName, MissingSemicolon}
-use Rattle.stl_decl.specs.declared.types.Shape.{Shape}
+use Rattle.stl_decl.specs.declared.fault.FaultKind.TheVariants.{MissingSemicolon}
 use Rattle.stl_decl.specs.declared.layout.FirstValue.{FirstValue}
 use Rattle.stl_decl.specs.declared.grammar.SectionKind.{SectionKind}
 use Rattle.stl_decl.specs.declared.grammar.SectionKind.TheVariants.{Temporary, Structure}
 use Rattle.stl_decl.specs.Places.{Place}
-use Rattle.stl_decl.specs.Layout.{Section, Declared, variable_of}
+use Rattle.stl_decl.specs.Layout.{Section, variable_of}
 use Rattle.stl_decl.specs.Steps.{spelling, upper, fault_at, unfit, is_word_kind, is_sign, name_at, sign_at, semicolon_at, maybe_sign_at}
 use Rattle.stl_decl.specs.Declarations.{is_attribute_kind, skip_attribute, undeclared, fresh_name, given_at, initial_values_by, initial_values_at, placed, shape_at, declaration_at}
 use Rattle.stl_reader.proofs.Language.{bind_ok}

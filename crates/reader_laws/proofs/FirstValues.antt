@@ -1,18 +1,17 @@
 -- First values: what is spelled so is read, and what is read is spelled so.
 use Rattle.std.proofs.Common.{◌≡◌, ◌≤◌, ◌<◌, ◌+◌, ℕ, zero, suc, List, [], ◌∷◌, ◌++◌, length, refl, subst, ap, sym, ◌∙◌, Bool, true, false, cond, arith, append_assoc, length-append}
-use Rattle.std.specs.Prelude.{Result, Ok, Err, Option, Some, None, nat_le, ◌||◌, codes}
+use Rattle.std.specs.Prelude.{Result, Ok, Option, Some, None, nat_le, ◌||◌, codes}
 use Rattle.std.proofs.lemmas.Bool.{and_parts, and_right, or_parts, le-leb, lt-leb, leb-true, leb-false}
 use Rattle.stl_lex.specs.declared.piece.TokenKind.{TokenKind}
 use Rattle.stl_lex.specs.declared.piece.TokenKind.TheVariants as kinds
 use Rattle.stl_lex.specs.declared.token.Token.{Token}
 use Rattle.stl_decl.specs.declared.fault.Fault.{Fault}
 use Rattle.stl_decl.specs.declared.fault.FaultKind.TheVariants.{BadOperand}
-use Rattle.stl_decl.specs.declared.types.SimpleType.{SimpleType}
 use Rattle.stl_decl.specs.declared.constants.Constant.{Constant}
 use Rattle.stl_decl.specs.declared.layout.FirstValue.{FirstValue}
 use Rattle.stl_decl.specs.declared.initials.Filling.{Filling}
 use Rattle.stl_decl.specs.Places.{Place}
-use Rattle.stl_decl.specs.Constants.{suits, constant_of}
+use Rattle.stl_decl.specs.Constants.{suits}
 use Rattle.stl_decl.specs.Steps.{end_fault, fault_at, unfit, is_number_kind, is_sign_kind, is_sign, number_of, sign_at, maybe_sign_at}
 use Rattle.stl_decl.specs.Repeat.{Turn, Ended, Goes, repeated}
 use Rattle.stl_decl.specs.Initials.{is_repetition, has_room, value_of_type_at, fill, repetition_at, one_at, single_initial_at, initial_at, Filled, more_filled, initial_by, initial_turn}
@@ -25,7 +24,7 @@ use Rattle.reader_laws.proofs.Steps.{if_ok, if_not, same_ok, closing_takes}
 use Rattle.reader_laws.proofs.Locals.{last_closing}
 use Rattle.reader_laws.proofs.Compared.{sign_is}
 use Rattle.reader_laws.proofs.Figures.{other_sign}
-use Rattle.reader_laws.proofs.Types.{last_behind, sign_again}
+use Rattle.reader_laws.proofs.Types.{last_behind}
 use Rattle.reader_laws.proofs.Values.{token_begins, value_read, value_spelled}
 
 no_figure : (k : TokenKind) → k ≡ kinds.Sign → is_number_kind k ≡ false

@@ -16,12 +16,11 @@ use Rattle.stl_decl.specs.Steps.{◌>>=◌, spelling, end_fault, fault_at, unfit
 use Rattle.stl_decl.specs.Repeat.{Turn, Ended, Goes, repeated}
 use Rattle.block_loader.specs.declared.heads.BlockKind.{BlockKind}
 use Rattle.block_loader.specs.declared.heads.BlockKind.TheVariants.{Code, Data}
-use Rattle.block_loader.specs.declared.heads.Heading.{Heading}
-use Rattle.block_loader.specs.Heads.{kind_of, kind_by, kind_at, kind_word, numbered, type_at, void_at, result_at, heading_at, is_owner_kind, owner_at, is_owner, is_note_kind, is_plain_head, entry_at, version_at, head_at, heads_by, heads_turn, heads_at}
+use Rattle.block_loader.specs.Heads.{kind_of, kind_by, kind_at, kind_word, numbered, type_at, result_at, heading_at, is_owner_kind, owner_at, is_owner, is_note_kind, is_plain_head, entry_at, version_at, head_at, heads_by, heads_turn, heads_at}
 use Rattle.stl_reader.proofs.Language.{bind_ok}
 use Rattle.reader_laws.specs.Tokens.{IsSign, IsRead}
 use Rattle.reader_laws.specs.Heads.{opening_word, short_word, may_have, IsResult, of_function, of_ob, of_fb, of_data, IsHeading, of_kind, HeadingsSpelledAreRead, HeadingsReadAreSpelled, is_note, is_owner_word, IsHead, of_note, of_owner, of_version, AreHeads, no_head, one_head, AreHeadsRead, begins_head, HeadsReadAreSpelled, HeadsSpelledAreRead}
-use Rattle.reader_laws.proofs.Steps.{if_ok, if_not, same_ok, TakesToken, closing_takes}
+use Rattle.reader_laws.proofs.Steps.{if_ok, same_ok, TakesToken, closing_takes}
 use Rattle.reader_laws.proofs.Typed.{of_takes}
 
 -- a word is one word only

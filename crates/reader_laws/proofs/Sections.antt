@@ -1,5 +1,5 @@
 -- Sections of declarations: what is spelled so is read, and what is read is spelled so.
-use Rattle.std.proofs.Common.{◌≡◌, ◌<◌, ◌≤◌, ◌+◌, ℕ, zero, suc, List, [], ◌∷◌, ◌++◌, length, refl, subst, ap, sym, ◌∙◌, Bool, true, false, cond, ◌||◌, arith, append_assoc, length-append}
+use Rattle.std.proofs.Common.{◌≡◌, ◌<◌, ◌+◌, ℕ, zero, suc, List, [], ◌∷◌, ◌++◌, length, refl, subst, ap, sym, ◌∙◌, Bool, true, false, cond, arith, append_assoc, length-append}
 use Rattle.std.specs.Prelude.{Result, Ok, Err, Option, Some, None, codes}
 use Rattle.std.proofs.lemmas.Bool.{or_parts, or_from}
 use Rattle.stl_lex.specs.declared.token.Token.{Token}
@@ -13,10 +13,10 @@ use Rattle.stl_decl.specs.Repeat.{Turn, Ended, Goes, repeated}
 use Rattle.stl_decl.specs.Declarations.{declaration_at}
 use Rattle.stl_decl.specs.Sections.{end_word, section_by, section_turn, section_at, is_other_section, no_section_at, temporaries_by, temporaries_turn, temporaries_at, is_left_out, opening_at, skip_semicolon, structure_at}
 use Rattle.stl_reader.proofs.Language.{bind_ok}
-use Rattle.reader_laws.specs.Tokens.{IsSign, IsRead}
+use Rattle.reader_laws.specs.Tokens.{IsRead}
 use Rattle.reader_laws.specs.Declared.{IsDeclaration, of_name}
-use Rattle.reader_laws.specs.Sections.{begins_with, AreDeclarations, no_more, one_more, IsSection, of_declarations, SectionsSpelledAreRead, SectionsReadAreSpelled, AreTemporaries, no_section, one_section, begins_section, AreTemporariesRead, TemporariesSpelledAreRead, TemporariesReadAreSpelled, IsSemicolon, without, with_one, IsStructure, of_section, begins_sign, StructuresSpelledAreRead, StructuresReadAreSpelled}
-use Rattle.reader_laws.proofs.Steps.{if_ok, if_not, same_ok, TakesToken}
+use Rattle.reader_laws.specs.Sections.{begins_with, AreDeclarations, no_more, one_more, IsSection, of_declarations, SectionsSpelledAreRead, SectionsReadAreSpelled, AreTemporaries, no_section, one_section, begins_section, TemporariesSpelledAreRead, TemporariesReadAreSpelled, IsSemicolon, without, with_one, IsStructure, of_section, begins_sign, StructuresSpelledAreRead, StructuresReadAreSpelled}
+use Rattle.reader_laws.proofs.Steps.{if_not, same_ok, TakesToken}
 use Rattle.reader_laws.proofs.Declared.{declaration_read, declaration_takes}
 
 -- a word that is there, or isn't
