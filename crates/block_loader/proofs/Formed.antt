@@ -20,7 +20,7 @@ use Rattle.stl_decl.specs.declared.fault.FaultKind.TheVariants.{DoubleBlock, Too
 use Rattle.stl_decl.specs.Layout.{Section, size_of}
 use Rattle.stl_decl.specs.Bytes.{first_bytes}
 use Rattle.block_loader.specs.declared.faults.Totals.{Totals}
-use Rattle.block_loader.specs.declared.faults.SourceFault.{SourceFault}
+use Rattle.stl_decl.specs.declared.fault.Fault.{Fault}
 use Rattle.block_loader.specs.declared.blocks.SourceCode.{SourceCode}
 use Rattle.block_loader.specs.declared.blocks.SourceData.{SourceData}
 use Rattle.block_loader.specs.declared.blocks.SourceBlock.{SourceBlock}
@@ -38,9 +38,9 @@ no_parts : {X : Type 0} (xs ys : List X) → xs ++ ys ≡ [] → (xs ≡ []) × 
 no_parts [] ys e = (refl, e)
 no_parts (x ∷ xs) ys e = cc
 
-not_there : (there : Bool) (b : ℕ) (kind : FaultKind) (block : SourceBlock) → at_head there b kind block ≡ [] → there ≡ false
-not_there false b kind block e = refl
-not_there true b kind block e = cc
+not_there : (there : Bool) (kind : FaultKind) (block : SourceBlock) → at_head there kind block ≡ [] → there ≡ false
+not_there false kind block e = refl
+not_there true kind block e = cc
 
 -- what holds of a block whose head has no fault
 record IsFaultless (taken : Bool) (b : ℕ) (t : Totals) (block : SourceBlock) : Type 0 where
@@ -50,12 +50,12 @@ record IsFaultless (taken : Bool) (b : ℕ) (t : Totals) (block : SourceBlock) :
 
 faultless : (taken : Bool) (b : ℕ) (t : Totals) (block : SourceBlock) → head_faults taken b t block ≡ [] → IsFaultless taken b t block
 faultless taken b t block e =
-    let all = no_parts (at_head taken b DoubleBlock block ++ at_head (b == 257) b TooManyBlocks block) (at_head (is_too_large t block) b TooLarge block) e in
-    let two = no_parts (at_head taken b DoubleBlock block) (at_head (b == 257) b TooManyBlocks block) all.0 in
+    let all = no_parts (at_head taken DoubleBlock block ++ at_head (b == 257) TooManyBlocks block) (at_head (is_too_large t block) TooLarge block) e in
+    let two = no_parts (at_head taken DoubleBlock block) (at_head (b == 257) TooManyBlocks block) all.0 in
     record {
-      free = not_there taken b DoubleBlock block two.0;
-      within = not_there (b == 257) b TooManyBlocks block two.1;
-      small = not_there (is_too_large t block) b TooLarge block all.1;
+      free = not_there taken DoubleBlock block two.0;
+      within = not_there (b == 257) TooManyBlocks block two.1;
+      small = not_there (is_too_large t block) TooLarge block all.1;
     }
 
 none_of : (x y z : Bool) → (x || y || z) ≡ false → (x ≡ false) × (y ≡ false) × (z ≡ false)
@@ -255,9 +255,9 @@ module _ (b : ℕ) (front : List (List ℕ)) (t : Totals) (p : programs.Program)
       main_by (inr h) before = cc
 
 -- one more block
-more_block : (b : ℕ) (front : List (List ℕ)) (t : Totals) (p : programs.Program) (block : SourceBlock) → IsSoFar b front t p → IsSoundBlock block → IsFaultless (list_any (λ n. bytes_eq n (name_of block)) front) b (counted t block) block → inner_faults b block ≡ [] → IsSoFar (b + 1) (front ++ name_of block ∷ []) (counted t block) (added p block)
+more_block : (b : ℕ) (front : List (List ℕ)) (t : Totals) (p : programs.Program) (block : SourceBlock) → IsSoFar b front t p → IsSoundBlock block → IsFaultless (list_any (λ n. bytes_eq n (name_of block)) front) b (counted t block) block → inner_faults block ≡ [] → IsSoFar (b + 1) (front ++ name_of block ∷ []) (counted t block) (added p block)
 more_block b front t p (Code code) so sound ok none =
-    more_code b front t p code so sound ok (landing b (locals_of code.kind code.temp) code.body sound.body (no_parts (double_labels b [] code.body.labels) (jump_faults b code.body.statements code.body.labels code.body.jumps) none).1)
+    more_code b front t p code so sound ok (landing (locals_of code.kind code.temp) code.body sound.body (no_parts (double_labels [] code.body.labels) (jump_faults code.body.statements code.body.labels code.body.jumps) none).1)
 more_block b front t p (Data block) so sound ok none = more_data b front t p block so sound ok
 
 -- all blocks, one after the other
@@ -266,9 +266,9 @@ unfolding blocks_faults
 all_added [] b front t p sound none so = (b, t, subst (λ names. IsSoFar b names t p) (sym (append-nil front)) so)
 all_added (block ∷ blocks) b front t p sound none so =
     let name : List ℕ = name_of block in
-    let heads : List SourceFault = head_faults (list_any (λ n. bytes_eq n (name_of block)) front) b (counted t block) block in
-    let parts = no_parts (heads ++ inner_faults b block) (blocks_faults (b + 1) (front ++ name ∷ []) (counted t block) blocks) none in
-    let here = no_parts heads (inner_faults b block) parts.0 in
+    let heads : List Fault = head_faults (list_any (λ n. bytes_eq n (name_of block)) front) b (counted t block) block in
+    let parts = no_parts (heads ++ inner_faults block) (blocks_faults (b + 1) (front ++ name ∷ []) (counted t block) blocks) none in
+    let here = no_parts heads (inner_faults block) parts.0 in
     let ok = faultless (list_any (λ n. bytes_eq n (name_of block)) front) b (counted t block) block here.0 in
     let next = more_block b front t p block so (All-head IsSoundBlock block blocks sound) ok here.1 in
     let rest = all_added blocks (b + 1) (front ++ name ∷ []) (counted t block) (added p block) (All-tail IsSoundBlock block blocks sound) parts.1 next in

@@ -18,8 +18,8 @@ use Rattle.stl_reader.specs.declared.contents.Jump.{Jump}
 use Rattle.stl_reader.specs.declared.contents.Label.{Label}
 use Rattle.stl_reader.specs.Contents.{Contents}
 use Rattle.stl_reader.specs.Sound.{IsSound, jump_places}
-use Rattle.block_loader.specs.declared.faults.SourceFault.{SourceFault}
-use Rattle.block_loader.specs.Faults.{target, is_far, has_list, label_fault, fault_of_jump, jump_fault, jump_faults, at_jump}
+use Rattle.stl_decl.specs.declared.fault.Fault.{Fault}
+use Rattle.block_loader.specs.Faults.{target, is_far, has_list, label_fault, fault_of_jump, jump_fault, jump_faults, fault_at}
 use Rattle.block_loader.specs.Load.{with_target, jumping, landed_one, landed}
 use Rattle.block_loader.proofs.Values.{still_statement}
 
@@ -64,25 +64,25 @@ record IsFree (at : ℕ) (named : Option ℕ) (s : BodyStatement) (after : List 
   list : (is_jl s.statement && not (has_list at goal after)) ≡ false
   near : is_far goal at ≡ false
 
-free : (b : ℕ) (j : Jump) (named : Option ℕ) (s : BodyStatement) (after : List BodyStatement) → label_fault b j named s after ≡ [] → IsFree j.statement named s after
-free b j None s after e = absurd cc
-free b j (Some goal) s after e = by (is_jl s.statement && not (has_list j.statement goal after)) (is_far goal j.statement) refl refl e
+free : (j : Jump) (named : Option ℕ) (s : BodyStatement) (after : List BodyStatement) → label_fault j named s after ≡ [] → IsFree j.statement named s after
+free j None s after e = absurd cc
+free j (Some goal) s after e = by (is_jl s.statement && not (has_list j.statement goal after)) (is_far goal j.statement) refl refl e
   where
-    by : (t u : Bool) → (is_jl s.statement && not (has_list j.statement goal after)) ≡ t → is_far goal j.statement ≡ u → cond {A = List SourceFault} t (at_jump b j NoLabel s) (cond {A = List SourceFault} u (at_jump b j JumpTooFar s) []) ≡ [] → IsFree j.statement (Some goal) s after
+    by : (t u : Bool) → (is_jl s.statement && not (has_list j.statement goal after)) ≡ t → is_far goal j.statement ≡ u → cond {A = List Fault} t (fault_at NoLabel s ∷ []) (cond {A = List Fault} u (fault_at JumpTooFar s ∷ []) []) ≡ [] → IsFree j.statement (Some goal) s after
     by true u list near e = absurd cc
     by false true list near e = absurd cc
     by false false list near e = record { goal = goal; is = refl; list = list; near = near }
 
 -- the jump behind a front has no fault
-found_free : (b : ℕ) (j : Jump) (named : Option ℕ) (before : List BodyStatement) (s : BodyStatement) (after : List BodyStatement) → j.statement ≡ length before → jump_fault b (before ++ s ∷ after) named j ≡ [] → IsFree j.statement named s after
+found_free : (j : Jump) (named : Option ℕ) (before : List BodyStatement) (s : BodyStatement) (after : List BodyStatement) → j.statement ≡ length before → jump_fault (before ++ s ∷ after) named j ≡ [] → IsFree j.statement named s after
 unfolding jump_fault
-found_free b j named before s after at e =
+found_free j named before s after at e =
     let whole : List BodyStatement = before ++ s ∷ after in
-    let here = subst (λ n. fault_of_jump b j named (slice_get whole n) (drop (n + 1) whole) ≡ []) at e in
-    let there = subst (λ o. fault_of_jump b j named o (drop (length before + 1) whole) ≡ []) (at_seam before s after) here in
-    free b j named s after (subst (λ ss. label_fault b j named s ss ≡ []) (drop-append-add before (s ∷ after) 1) there)
+    let here = subst (λ n. fault_of_jump j named (slice_get whole n) (drop (n + 1) whole) ≡ []) at e in
+    let there = subst (λ o. fault_of_jump j named o (drop (length before + 1) whole) ≡ []) (at_seam before s after) here in
+    free j named s after (subst (λ ss. label_fault j named s ss ≡ []) (drop-append-add before (s ∷ after) 1) there)
 
-no_faults : (fs gs : List SourceFault) → fs ++ gs ≡ [] → (fs ≡ []) × (gs ≡ [])
+no_faults : (fs gs : List Fault) → fs ++ gs ≡ [] → (fs ≡ []) × (gs ≡ [])
 no_faults [] gs e = (refl, e)
 no_faults (f ∷ fs) gs e = absurd cc
 
@@ -137,15 +137,15 @@ module _ (locals : ℕ) where
         jumps = and_from (lands (length front) t next.rest) (all_land (length front + 1) next.rest) land (subst (λ n. all_land n next.rest ≡ true) count next.jumps);
       }
 
-module _ (b locals : ℕ) (whole : List BodyStatement) (labels : List Label) (within : All (λ l. l.statement ≤ length whole) labels) where
+module _ (locals : ℕ) (whole : List BodyStatement) (labels : List Label) (within : All (λ l. l.statement ≤ length whole) labels) where
   abbrev names : List ℕ → Option ℕ
   names = target labels
 
   abbrev all_landed : List Statement → List BodyStatement → List Jump → List Statement
   all_landed front ss js = fold (landed_one names) (front ++ map (λ s. s.statement) ss) js
 
-  abbrev faults : List Jump → List SourceFault
-  faults js = flat_map (λ j. jump_fault b whole (names j.name) j) js
+  abbrev faults : List Jump → List Fault
+  faults js = flat_map (λ j. jump_fault whole (names j.name) j) js
 
   rest_lands : (ss : List BodyStatement) (js : List Jump) (before : List BodyStatement) (front : List Statement) → length front ≡ length before → before ++ ss ≡ whole → All (λ s. IsTrue (is_statement locals s.statement)) ss → map (λ j. j.statement) js ≡ jump_places (length front) ss → faults js ≡ [] → IsRest locals front (all_landed front ss js) ss
   rest_lands [] [] before front count split language places none = nothing_left locals front
@@ -170,8 +170,8 @@ module _ (b locals : ℕ) (whole : List BodyStatement) (labels : List Label) (wi
       by again (j ∷ js) true is places none =
           let at : j.statement ≡ length front = cc in
           let rest : map (λ j. j.statement) js ≡ jump_places (length front + 1) ss = cc in
-          let parts = no_faults (jump_fault b whole (names j.name) j) (faults js) none in
-          let found = found_free b j (names j.name) before s ss (at ∙ count) (subst (λ w. jump_fault b w (names j.name) j ≡ []) (sym split) parts.0) in
+          let parts = no_faults (jump_fault whole (names j.name) j) (faults js) none in
+          let found = found_free j (names j.name) before s ss (at ∙ count) (subst (λ w. jump_fault w (names j.name) j ≡ []) (sym split) parts.0) in
           let f : IsFree (length front) (names j.name) s ss = subst (λ n. IsFree n (names j.name) s ss) at found in
           let t : Statement = with_target f.goal s.statement in
           let next = again js (front ++ t ∷ []) (length-append front (t ∷ [])) rest parts.1 in
@@ -183,9 +183,9 @@ module _ (b locals : ℕ) (whole : List BodyStatement) (labels : List Label) (wi
           subst (λ all. IsRest locals front all (s ∷ ss)) same (one_before locals front _ t s ss refl (still_statement locals f.goal s.statement is of_language) next (free_lands (length front) f.goal s ss next.rest next.ops f.list f.near (omega arith)))
 
 -- where no jump of a body has a fault, all of them land
-pub landing : (b : ℕ) (locals : ℕ) (body : Contents) → IsSound locals body → jump_faults b body.statements body.labels body.jumps ≡ [] → IsLanded locals body
-landing b locals body sound none =
-    let all : IsRest locals [] (landed body) body.statements = rest_lands b locals body.statements body.labels sound.labels body.statements body.jumps [] [] refl refl sound.language sound.jumps none in
+pub landing : (locals : ℕ) (body : Contents) → IsSound locals body → jump_faults body.statements body.labels body.jumps ≡ [] → IsLanded locals body
+landing locals body sound none =
+    let all : IsRest locals [] (landed body) body.statements = rest_lands locals body.statements body.labels sound.labels body.statements body.jumps [] [] refl refl sound.language sound.jumps none in
     record {
       count = ap length all.is ∙ as_many all.rest body.statements all.ops;
       language = subst (All (λ s. IsTrue (is_statement locals s))) (sym all.is) all.language;

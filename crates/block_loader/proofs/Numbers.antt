@@ -53,7 +53,7 @@ heading_numbered text tokens x e =
     let number = bind_ok (number_at text word.0.1) _ x word.2 in
     let within = bind_ok (numbered kind.0.0 number.0.0 number.0.1) _ x number.2 in
     let rest = bind_ok (result_at text kind.0.0 number.0.2) _ x within.2 in
-    let same : (record { kind = kind.0.0; number = within.0; line = kind.0.1.line }, rest.0) ≡ x = let f = rest.2 in cc in
+    let same : (record { kind = kind.0.0; number = within.0; line = kind.0.1.line; column = kind.0.1.column }, rest.0) ≡ x = let f = rest.2 in cc in
     subst (λ y. IsNumbered y.0.kind y.0.number) same (numbered_so kind.0.0 number.0.0 within.0 number.0.1 within.1)
 
 module _ (turns : ℕ) (text : List ℕ) (heading : Heading) (tokens : List Token) where
@@ -63,10 +63,10 @@ module _ (turns : ℕ) (text : List ℕ) (heading : Heading) (tokens : List Toke
       let rest = bind_ok (heads_at turns text tokens) _ x e in
       let temps = bind_ok (temporaries_at turns text rest.0) _ x rest.2 in
       let begin = bind_ok (word_at text (codes "BEGIN") temps.0.1) _ x temps.2 in
-      let same : (record { kind = kind; number = heading.number; line = heading.line; temps = temps.0.0 }, begin.0.1) ≡ x = let f = begin.2 in cc in
+      let same : (record { kind = kind; number = heading.number; line = heading.line; column = heading.column; temps = temps.0.0 }, begin.0.1) ≡ x = let f = begin.2 in cc in
       subst (λ y. IsTrue (has_number y.0.kind y.0.number)) same h
 
-  data_made : (layout : Section) (rest : List Token) (x : SourceData × List Token) → (1 ≤ heading.number) × (heading.number ≤ 255) → (record { number = heading.number; line = heading.line; layout = layout }, rest) ≡ x → IsSoundData x.0
+  data_made : (layout : Section) (rest : List Token) (x : SourceData × List Token) → (1 ≤ heading.number) × (heading.number ≤ 255) → (record { number = heading.number; line = heading.line; column = heading.column; layout = layout }, rest) ≡ x → IsSoundData x.0
   data_made layout rest x h e = subst (λ y. IsSoundData y.0) e (record { number = h.0; last_number = h.1 })
 
   data_sound : (x : SourceData × List Token) → (1 ≤ heading.number) × (heading.number ≤ 255) → data_at turns text heading tokens ≡ Ok x → IsSoundData x.0

@@ -39,4 +39,4 @@ same_targets names labels e statements (j ∷ js) = rw (e j.name) (same_targets 
 
 -- what an index past the list gives
 abbrev pub no_statement_there : BodyStatement
-no_statement_there = record { statement = record { op = 0; area = 0; bit = 0; db = 0; value = 0 }; line = 0 }
+no_statement_there = record { statement = record { op = 0; area = 0; bit = 0; db = 0; value = 0 }; line = 0; column = 0 }

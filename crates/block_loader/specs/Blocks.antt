@@ -24,6 +24,7 @@ code_of front text tokens from = do
       kind = front.kind;
       number = front.number;
       line = front.line;
+      column = front.column;
       temp = min (size_of front.temps) 4294967295;
       body = body.0;
     }),

@@ -7,35 +7,34 @@ use Rattle.s7_base.specs.declared.blocks.CodeKind.TheVariants.{Ob, Fb, Fc}
 use Rattle.s7_base.specs.declared.blocks.CodeKind.{CodeKind}
 use Rattle.s7_base.specs.Statements.{is_ju, is_jl}
 use Rattle.stl_lex.specs.declared.fault.LoadFault.{LoadFault}
+use Rattle.stl_decl.specs.declared.fault.Fault.{Fault}
 use Rattle.stl_decl.specs.declared.fault.FaultKind.{FaultKind}
 use Rattle.stl_decl.specs.declared.fault.FaultKind.TheVariants.{DoubleBlock, DoubleLabel, NoLabel, JumpTooFar, NoOb1, TooManyBlocks, TooLarge}
-use Rattle.stl_decl.specs.Faults.{kind_number}
+use Rattle.stl_decl.specs.Faults.{kind_number, told}
 use Rattle.stl_decl.specs.Layout.{size_of}
 use Rattle.stl_reader.specs.declared.items.BodyStatement.{BodyStatement}
 use Rattle.stl_reader.specs.declared.contents.Label.{Label}
 use Rattle.stl_reader.specs.declared.contents.Jump.{Jump}
-use Rattle.block_loader.specs.declared.faults.SourceFault.{SourceFault}
 use Rattle.block_loader.specs.declared.faults.Totals.{Totals}
 use Rattle.block_loader.specs.declared.blocks.SourceCode.{SourceCode}
 use Rattle.block_loader.specs.declared.blocks.SourceData.{SourceData}
 use Rattle.block_loader.specs.declared.blocks.SourceBlock.{SourceBlock}
 use Rattle.block_loader.specs.declared.blocks.SourceBlock.TheVariants.{Code, Data}
 
--- By place: the blocks in the order of the source, in a block its head and then its statements. A label stands before
--- the statement that it names, and its fault has a lower kind than that of a jump.
-abbrev pub is_before : SourceFault → SourceFault → Bool
+-- the earlier line, then the earlier column, then the lower kind
+abbrev pub is_before : Fault → Fault → Bool
 is_before f g =
-    nat_lt f.block g.block
-    || (f.block == g.block
-    && (nat_lt f.statement g.statement || (f.statement == g.statement && nat_lt (kind_number f.kind) (kind_number g.kind))))
+    nat_lt f.line g.line
+    || (f.line == g.line
+    && (nat_lt f.column g.column || (f.column == g.column && nat_lt (kind_number f.kind) (kind_number g.kind))))
 
 -- the lesser of what was found and this
-abbrev pub lesser : Option SourceFault → SourceFault → Option SourceFault
+abbrev pub lesser : Option Fault → Fault → Option Fault
 lesser None f = Some f
 lesser (Some g) f = if is_before f g then Some f else Some g
 
 -- the least of what was found and these
-unfoldable pub least_of : Option SourceFault → List SourceFault → Option SourceFault
+unfoldable pub least_of : Option Fault → List Fault → Option Fault
 least_of found [] = found
 least_of found (f ∷ fs) = least_of (lesser found f) fs
 
@@ -48,14 +47,14 @@ abbrev pub with_label : Option ℕ → List ℕ → Label → Option ℕ
 with_label (Some n) name l = Some n
 with_label None name l = if bytes_eq l.name name then Some l.statement else None
 
-abbrev pub double_label : ℕ → Option ℕ → Label → List SourceFault
-double_label b None l = []
-double_label b (Some n) l = record { block = b; statement = l.statement + 1; kind = DoubleLabel; line = l.line } ∷ []
+abbrev pub double_label : Option ℕ → Label → List Fault
+double_label None l = []
+double_label (Some n) l = record { kind = DoubleLabel; line = l.line; column = l.column } ∷ []
 
 -- each label whose name an earlier one has
-unfoldable pub double_labels : ℕ → List Label → List Label → List SourceFault
-double_labels b front [] = []
-double_labels b front (l ∷ ls) = double_label b (target front l.name) l ++ double_labels b (front ++ l ∷ []) ls
+unfoldable pub double_labels : List Label → List Label → List Fault
+double_labels front [] = []
+double_labels front (l ∷ ls) = double_label (target front l.name) l ++ double_labels (front ++ l ∷ []) ls
 
 -- more than 2,000 statements lie between these
 abbrev pub is_far : ℕ → ℕ → Bool
@@ -67,38 +66,38 @@ has_list at goal after =
     nat_le (at + 2) goal && nat_le goal (at + 256) && nat_le goal (at + 1 + length after)
     && list_all (λ s. is_ju s.statement) (take (goal - (at + 1)) after)
 
--- a fault of the jump with this number
-abbrev pub at_jump : ℕ → Jump → FaultKind → BodyStatement → List SourceFault
-at_jump b j kind s = record { block = b; statement = j.statement + 1; kind = kind; line = s.line } ∷ []
+-- a fault at a statement
+abbrev pub fault_at : FaultKind → BodyStatement → Fault
+fault_at kind s = record { kind = kind; line = s.line; column = s.column }
 
 -- the label of a jump is there, behind a list where it is a JL, and near enough
-abbrev pub landing_fault : ℕ → Jump → ℕ → BodyStatement → List BodyStatement → List SourceFault
-landing_fault b j goal s after =
-    if is_jl s.statement && not (has_list j.statement goal after) then at_jump b j NoLabel s
-    else (if is_far goal j.statement then at_jump b j JumpTooFar s else [])
+abbrev pub landing_fault : Jump → ℕ → BodyStatement → List BodyStatement → List Fault
+landing_fault j goal s after =
+    if is_jl s.statement && not (has_list j.statement goal after) then fault_at NoLabel s ∷ []
+    else (if is_far goal j.statement then fault_at JumpTooFar s ∷ [] else [])
 
-abbrev pub label_fault : ℕ → Jump → Option ℕ → BodyStatement → List BodyStatement → List SourceFault
-label_fault b j None s after = at_jump b j NoLabel s
-label_fault b j (Some goal) s after = landing_fault b j goal s after
+abbrev pub label_fault : Jump → Option ℕ → BodyStatement → List BodyStatement → List Fault
+label_fault j None s after = fault_at NoLabel s ∷ []
+label_fault j (Some goal) s after = landing_fault j goal s after
 
-abbrev pub fault_of_jump : ℕ → Jump → Option ℕ → Option BodyStatement → List BodyStatement → List SourceFault
-fault_of_jump b j goal None after = []
-fault_of_jump b j goal (Some s) after = label_fault b j goal s after
+abbrev pub fault_of_jump : Jump → Option ℕ → Option BodyStatement → List BodyStatement → List Fault
+fault_of_jump j goal None after = []
+fault_of_jump j goal (Some s) after = label_fault j goal s after
 
-unfoldable pub jump_fault : ℕ → List BodyStatement → Option ℕ → Jump → List SourceFault
-jump_fault b statements goal j = fault_of_jump b j goal (slice_get statements j.statement) (drop (j.statement + 1) statements)
+unfoldable pub jump_fault : List BodyStatement → Option ℕ → Jump → List Fault
+jump_fault statements goal j = fault_of_jump j goal (slice_get statements j.statement) (drop (j.statement + 1) statements)
 
 -- each jump whose label isn't in its block, isn't behind its list or is too far away
-abbrev pub jump_faults : ℕ → List BodyStatement → List Label → List Jump → List SourceFault
-jump_faults b statements labels jumps = flat_map (λ j. jump_fault b statements (target labels j.name) j) jumps
+abbrev pub jump_faults : List BodyStatement → List Label → List Jump → List Fault
+jump_faults statements labels jumps = flat_map (λ j. jump_fault statements (target labels j.name) j) jumps
 
 -- the faults inside a code block
-abbrev pub code_faults : ℕ → SourceCode → List SourceFault
-code_faults b code = double_labels b [] code.body.labels ++ jump_faults b code.body.statements code.body.labels code.body.jumps
+abbrev pub code_faults : SourceCode → List Fault
+code_faults code = double_labels [] code.body.labels ++ jump_faults code.body.statements code.body.labels code.body.jumps
 
-abbrev pub inner_faults : ℕ → SourceBlock → List SourceFault
-inner_faults b (Code code) = code_faults b code
-inner_faults b (Data block) = []
+abbrev pub inner_faults : SourceBlock → List Fault
+inner_faults (Code code) = code_faults code
+inner_faults (Data block) = []
 
 abbrev pub kind_byte : CodeKind → ℕ
 kind_byte Ob = 0
@@ -113,6 +112,10 @@ name_of (Data block) = 3 ∷ block.number ∷ []
 abbrev pub line_of : SourceBlock → ℕ
 line_of (Code code) = code.line
 line_of (Data block) = block.line
+
+abbrev pub column_of : SourceBlock → ℕ
+column_of (Code code) = code.column
+column_of (Data block) = block.column
 
 abbrev pub data_size : SourceData → ℕ
 data_size block = min (size_of block.layout) 4294967295
@@ -133,43 +136,39 @@ is_too_large t (Code code) =
 is_too_large t (Data block) = nat_lt 8192 (data_size block) || nat_lt 32768 t.bytes || nat_lt 256 t.pages
 
 -- a fault at the head of a block, where it is there
-abbrev pub at_head : Bool → ℕ → FaultKind → SourceBlock → List SourceFault
-at_head there b kind block = if there then record { block = b; statement = 0; kind = kind; line = line_of block } ∷ [] else []
+abbrev pub at_head : Bool → FaultKind → SourceBlock → List Fault
+at_head there kind block = if there then record { kind = kind; line = line_of block; column = column_of block } ∷ [] else []
 
 -- the faults at the head of a block: `taken` tells that an earlier block has its name, and t are the totals with it
-abbrev pub head_faults : Bool → ℕ → Totals → SourceBlock → List SourceFault
+abbrev pub head_faults : Bool → ℕ → Totals → SourceBlock → List Fault
 head_faults taken b t block =
-    (at_head taken b DoubleBlock block ++ at_head (b == 257) b TooManyBlocks block) ++ at_head (is_too_large t block) b TooLarge block
+    (at_head taken DoubleBlock block ++ at_head (b == 257) TooManyBlocks block) ++ at_head (is_too_large t block) TooLarge block
 
 -- the faults of these blocks, the first of which has the number b, behind blocks of these names and totals
-unfoldable pub blocks_faults : ℕ → List (List ℕ) → Totals → List SourceBlock → List SourceFault
+unfoldable pub blocks_faults : ℕ → List (List ℕ) → Totals → List SourceBlock → List Fault
 blocks_faults b front t [] = []
 blocks_faults b front t (block ∷ blocks) =
-    (head_faults (list_any (λ n. bytes_eq n (name_of block)) front) b (counted t block) block ++ inner_faults b block)
+    (head_faults (list_any (λ n. bytes_eq n (name_of block)) front) b (counted t block) block ++ inner_faults block)
     ++ blocks_faults (b + 1) (front ++ name_of block ∷ []) (counted t block) blocks
 
 -- OB1 isn't there; this stands before all
-abbrev pub missing : Bool → List SourceFault
-missing there = if there then [] else record { block = 0; statement = 0; kind = NoOb1; line = 0 } ∷ []
+abbrev pub missing : Bool → List Fault
+missing there = if there then [] else record { kind = NoOb1; line = 0; column = 0 } ∷ []
 
 abbrev pub no_totals : Totals
 no_totals = record { statements = 0; bytes = 0; pages = 0 }
 
 -- all faults of the whole source
-abbrev pub source_faults : List SourceBlock → List SourceFault
+abbrev pub source_faults : List SourceBlock → List Fault
 source_faults blocks = blocks_faults 1 [] no_totals blocks ++ missing (list_any (λ n. bytes_eq n (0 ∷ 1 ∷ [])) (map name_of blocks))
 
 -- the first of them
-abbrev pub first_fault : List SourceBlock → Option SourceFault
+abbrev pub first_fault : List SourceBlock → Option Fault
 first_fault blocks = least_of None (source_faults blocks)
 
--- what is told of it
-abbrev pub told_of_source : SourceFault → LoadFault
-told_of_source f = record { kind = kind_number f.kind; line = f.line }
-
-abbrev pub refused : Option SourceFault → List SourceBlock → Result (List SourceBlock) LoadFault
+abbrev pub refused : Option Fault → List SourceBlock → Result (List SourceBlock) LoadFault
 refused None blocks = Ok blocks
-refused (Some f) blocks = Err (told_of_source f)
+refused (Some f) blocks = Err (told f)
 
 -- the blocks, or the first fault of the whole
 abbrev pub judged : List SourceBlock → Result (List SourceBlock) LoadFault

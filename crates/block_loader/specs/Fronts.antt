@@ -20,7 +20,7 @@ code_front_at turns text heading kind tokens = do
   rest ← heads_at turns text tokens
   temps ← temporaries_at turns text rest
   begin ← word_at text (codes "BEGIN") temps.1
-  Ok (record { kind = kind; number = heading.number; line = heading.line; temps = temps.0 }, begin.1)
+  Ok (record { kind = kind; number = heading.number; line = heading.line; column = heading.column; temps = temps.0 }, begin.1)
 
 -- { head } "STRUCT" { decl } "END_STRUCT" [ ";" ] "BEGIN" { assignment } "END_DATA_BLOCK"
 unfoldable pub data_at : ℕ → List ℕ → Heading → List Token → Result (SourceData × List Token) Fault
@@ -29,7 +29,7 @@ data_at turns text heading tokens = do
   section ← structure_at turns text rest
   begin ← word_at text (codes "BEGIN") section.1
   assigned ← assignments_at turns text section.0 begin.1
-  Ok (record { number = heading.number; line = heading.line; layout = assigned.0 }, assigned.1)
+  Ok (record { number = heading.number; line = heading.line; column = heading.column; layout = assigned.0 }, assigned.1)
 
 -- a block behind its first line, up to its statements
 abbrev pub front_by : BlockKind → ℕ → List ℕ → Heading → List Token → Result (Front × List Token) Fault

@@ -74,7 +74,7 @@ heading_at text tokens = do
   number ← number_at text word.1
   within ← numbered kind.0 number.0 number.1
   rest ← result_at text kind.0 number.2
-  Ok (record { kind = kind.0; number = within; line = kind.1.line }, rest)
+  Ok (record { kind = kind.0; number = within; line = kind.1.line; column = kind.1.column }, rest)
 
 abbrev pub is_owner_kind : TokenKind → Bool
 is_owner_kind kinds.Word = true

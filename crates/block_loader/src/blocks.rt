@@ -16,31 +16,34 @@ use stl_decl::{
 use stl_lex::{Token, Tokens};
 use stl_reader::{Body, body};
 
-/// What stands before the statements of a code block: its kind and number, the line of its head and its temporary
+/// What stands before the statements of a code block: its kind and number, the line and the column of its head and its temporary
 /// names.
 #[derive(Drop)]
 pub struct CodeFront {
     pub kind: CodeKind,
     pub number: u8,
     pub line: u32,
+    pub column: u32,
     pub temps: Layout,
 }
 
-/// A code block: its kind and number, the line of its head, the bytes of its temporary data, and its body.
+/// A code block: its kind and number, the line and the column of its head, the bytes of its temporary data, and its body.
 #[derive(Drop)]
 pub struct SourceCode {
     pub kind: CodeKind,
     pub number: u8,
     pub line: u32,
+    pub column: u32,
     pub temp: u32,
     pub body: Body,
 }
 
-/// A data block: its number, the line of its head, and its names with their first values.
+/// A data block: its number, the line and the column of its head, and its names with their first values.
 #[derive(Drop)]
 pub struct SourceData {
     pub number: u8,
     pub line: u32,
+    pub column: u32,
     pub layout: Layout,
 }
 
@@ -80,6 +83,7 @@ fn code_front_at<'a>(
             kind,
             number: heading.number,
             line: heading.line,
+            column: heading.column,
             temps,
         },
         rest,
@@ -107,6 +111,7 @@ fn data_at<'a>(
         SourceData {
             number: heading.number,
             line: heading.line,
+            column: heading.column,
             layout,
         },
         rest,
@@ -177,6 +182,7 @@ fn block_by(
                 kind: front.kind,
                 number: front.number,
                 line: front.line,
+                column: front.column,
                 temp: front.temps.size(),
                 body,
             };

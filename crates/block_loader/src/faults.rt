@@ -4,27 +4,16 @@ ghost use Rattle.std.specs.Str.{bytes_eq};
 ghost use Rattle.std.specs.List.{flat_map, list_all};
 ghost use Rattle.indexmap.specs.IndexMap.{get};
 ghost use Rattle.s7_base.specs.Statements.{is_ju};
-ghost use Rattle.block_loader.specs.declared.faults.SourceFault.{SourceFault};
+ghost use Rattle.stl_decl.specs.declared.fault.Fault.{Fault};
 ghost use Rattle.block_loader.specs.Least.{IsLeast};
-ghost use Rattle.block_loader.specs.Faults.{is_before, lesser, least_of, target, with_label, double_label, double_labels, is_far, has_list, landing_fault, label_fault, jump_fault, code_faults, inner_faults, kind_byte, name_of, line_of, total, counted, is_too_large, at_head, head_faults, missing, first_fault, told_of_source};
+ghost use Rattle.block_loader.specs.Faults.{is_before, lesser, least_of, target, with_label, double_label, double_labels, is_far, has_list, fault_at, landing_fault, label_fault, jump_fault, code_faults, inner_faults, kind_byte, name_of, line_of, column_of, total, counted, is_too_large, at_head, head_faults, missing, first_fault};
 
 use crate::blocks::{SourceBlock, SourceCode};
 use indexmap::{IndexMap, IndexSet};
 use s7_base::CodeKind;
 use std::alloc::{AllocError, AllocFailed, Global};
-use stl_decl::FaultKind;
-use stl_lex::LoadFault;
+use stl_decl::{Fault, FaultKind};
 use stl_reader::{BodyStatement, Jump, Label};
-
-/// A fault of the whole source, and its place: the number of its block in the order of the source, from 1, and in
-/// the block 0 at its head, else one more than the number of the statement that it stands at or, of a label, before.
-#[derive(Clone, Copy, Debug, PartialEq, Eq)]
-pub struct SourceFault {
-    pub block: usize,
-    pub statement: usize,
-    pub kind: FaultKind,
-    pub line: u32,
-}
 
 /// What the blocks so far have together, up to a million each.
 #[derive(Clone, Copy, Debug, PartialEq, Eq)]
@@ -34,18 +23,18 @@ pub struct Totals {
     pub pages: u64,
 }
 
-fn is_before(fault: SourceFault, other: SourceFault) -> bool
+/// Whether a fault stands before the other: in an earlier line, else in an earlier column, else by a lower kind.
+fn is_before(fault: Fault, other: Fault) -> bool
     ensures { result ≡ is_before fault other }
 {
-    fault.block < other.block
-        || (fault.block == other.block
-            && (fault.statement < other.statement
-                || (fault.statement == other.statement
-                    && fault.kind.number() < other.kind.number())))
+    fault.line < other.line
+        || (fault.line == other.line
+            && (fault.column < other.column
+                || (fault.column == other.column && fault.kind.number() < other.kind.number())))
 }
 
 /// The lesser of what was found and this.
-fn lesser(found: Option<SourceFault>, fault: SourceFault) -> Option<SourceFault>
+fn lesser(found: Option<Fault>, fault: Fault) -> Option<Fault>
     ensures { result ≡ lesser found fault }
 {
     match found {
@@ -64,22 +53,20 @@ fn lesser(found: Option<SourceFault>, fault: SourceFault) -> Option<SourceFault>
 #[tactic(auto, unfolding(crate::specs::Faults::least_of))]
 fn take_label(
     names: &mut IndexMap<[u8; 4], u32>,
-    block: usize,
     label: Label,
-    found: Option<SourceFault>,
-) -> Result<Option<SourceFault>, AllocFailed<([u8; 4], u32)>>
-    ensures found { IfOk result (λ f. f ≡ least_of found (double_label block (get bytes_eq names.old label.name) label)) }
+    found: Option<Fault>,
+) -> Result<Option<Fault>, AllocFailed<([u8; 4], u32)>>
+    ensures found { IfOk result (λ f. f ≡ least_of found (double_label (get bytes_eq names.old label.name) label)) }
     ensures names { OnOk result ((k : List ℕ) → get bytes_eq names.new k ≡ with_label (get bytes_eq names.old k) k label) }
 {
     let name = label.name;
     if names.contains_key(&name) {
         Ok(lesser(
             found,
-            SourceFault {
-                block,
-                statement: label.statement as usize + 1,
+            Fault {
                 kind: FaultKind::DoubleLabel,
                 line: label.line,
+                column: label.column,
             },
         ))
     } else {
@@ -91,17 +78,16 @@ fn take_label(
 /// The statements that the names stand before, and the least fault with those of double labels.
 pub(crate) fn labels_of(
     alloc: Global,
-    block: usize,
     labels: &[Label],
-    found: Option<SourceFault>,
-) -> Result<(IndexMap<[u8; 4], u32>, Option<SourceFault>), AllocError>
+    found: Option<Fault>,
+) -> Result<(IndexMap<[u8; 4], u32>, Option<Fault>), AllocError>
     ensures names { IfOk result (λ x. (k : List ℕ) → get bytes_eq x.0 k ≡ target labels.now k) }
-    ensures found { IfOk result (λ x. x.1 ≡ least_of found (double_labels block [] labels.now)) }
+    ensures found { IfOk result (λ x. x.1 ≡ least_of found (double_labels [] labels.now)) }
 {
     let mut names = IndexMap::new(alloc);
     let mut least = found;
     for label in labels {
-        least = take_label(&mut names, block, *label, least)?;
+        least = take_label(&mut names, *label, least)?;
     }
     Ok((names, least))
 }
@@ -131,61 +117,50 @@ fn has_list(at: u32, target: u32, after: &[BodyStatement]) -> bool
         && are_ju(&after[..target - first])
 }
 
-fn fault_of_jump(block: usize, jump: Jump, kind: FaultKind, line: u32) -> SourceFault
-    ensures { result ≡ record { block = block; statement = jump.statement + 1; kind = kind; line = line } }
+/// A fault at a statement.
+fn fault_at(kind: FaultKind, statement: BodyStatement) -> Fault
+    ensures { result ≡ fault_at kind statement }
 {
-    SourceFault {
-        block,
-        statement: jump.statement as usize + 1,
+    Fault {
         kind,
-        line,
+        line: statement.line,
+        column: statement.column,
     }
 }
 
 /// The fault of a jump whose label is there, if it is one.
 #[tactic(auto, unfolding(crate::specs::Faults::least_of))]
 fn take_landing(
-    block: usize,
     jump: Jump,
     target: u32,
     statement: BodyStatement,
     after: &[BodyStatement],
-    found: Option<SourceFault>,
-) -> Option<SourceFault>
-    ensures { result ≡ least_of found (landing_fault block jump target statement after.now) }
+    found: Option<Fault>,
+) -> Option<Fault>
+    ensures { result ≡ least_of found (landing_fault jump target statement after.now) }
 {
     if statement.statement.is_jl() && !has_list(jump.statement, target, after) {
-        return lesser(
-            found,
-            fault_of_jump(block, jump, FaultKind::NoLabel, statement.line),
-        );
+        return lesser(found, fault_at(FaultKind::NoLabel, statement));
     }
     if is_far(target, jump.statement) {
-        return lesser(
-            found,
-            fault_of_jump(block, jump, FaultKind::JumpTooFar, statement.line),
-        );
+        return lesser(found, fault_at(FaultKind::JumpTooFar, statement));
     }
     found
 }
 
 #[tactic(auto, unfolding(crate::specs::Faults::least_of))]
 fn take_label_of(
-    block: usize,
     jump: Jump,
     target: Option<u32>,
     statement: BodyStatement,
     after: &[BodyStatement],
-    found: Option<SourceFault>,
-) -> Option<SourceFault>
-    ensures { result ≡ least_of found (label_fault block jump target statement after.now) }
+    found: Option<Fault>,
+) -> Option<Fault>
+    ensures { result ≡ least_of found (label_fault jump target statement after.now) }
 {
     match target {
-        None => lesser(
-            found,
-            fault_of_jump(block, jump, FaultKind::NoLabel, statement.line),
-        ),
-        Some(target) => take_landing(block, jump, target, statement, after, found),
+        None => lesser(found, fault_at(FaultKind::NoLabel, statement)),
+        Some(target) => take_landing(jump, target, statement, after, found),
     }
 }
 
@@ -199,17 +174,15 @@ fn behind(statements: &[BodyStatement], n: u32) -> &[BodyStatement]
 
 #[tactic(auto, unfolding(crate::specs::Faults::jump_fault, crate::specs::Faults::least_of))]
 fn take_jump(
-    block: usize,
     statements: &[BodyStatement],
     target: Option<u32>,
     jump: Jump,
-    found: Option<SourceFault>,
-) -> Option<SourceFault>
-    ensures { result ≡ least_of found (jump_fault block statements.now target jump) }
+    found: Option<Fault>,
+) -> Option<Fault>
+    ensures { result ≡ least_of found (jump_fault statements.now target jump) }
 {
     match statements.get(jump.statement as usize) {
         Some(statement) => take_label_of(
-            block,
             jump,
             target,
             *statement,
@@ -223,18 +196,17 @@ fn take_jump(
 /// The least fault with those of the jumps.
 fn take_jumps(
     names: &IndexMap<[u8; 4], u32>,
-    block: usize,
     statements: &[BodyStatement],
     jumps: &[Jump],
-    found: Option<SourceFault>,
-) -> Option<SourceFault>
-    ensures { result ≡ least_of found (flat_map (λ j. jump_fault block statements.now (get bytes_eq names.now j.name) j) jumps.now) }
+    found: Option<Fault>,
+) -> Option<Fault>
+    ensures { result ≡ least_of found (flat_map (λ j. jump_fault statements.now (get bytes_eq names.now j.name) j) jumps.now) }
 {
     let mut least = found;
     for jump in jumps {
         let name = jump.name;
         let target = names.get(&name).copied();
-        least = take_jump(block, statements, target, *jump, least);
+        least = take_jump(statements, target, *jump, least);
     }
     least
 }
@@ -242,34 +214,26 @@ fn take_jumps(
 /// The least fault with those inside a code block.
 fn take_code(
     alloc: Global,
-    block: usize,
     code: &SourceCode,
-    found: Option<SourceFault>,
-) -> Result<Option<SourceFault>, AllocError>
-    ensures { IfOk result (λ f. f ≡ least_of found (code_faults block code.now)) }
+    found: Option<Fault>,
+) -> Result<Option<Fault>, AllocError>
+    ensures { IfOk result (λ f. f ≡ least_of found (code_faults code.now)) }
 {
-    let (names, least) = labels_of(alloc, block, code.body.labels(), found)?;
-    Ok(take_jumps(
-        &names,
-        block,
-        code.body.statements(),
-        code.body.jumps(),
-        least,
-    ))
+    let (names, least) = labels_of(alloc, code.body.labels(), found)?;
+    Ok(take_jumps(&names, code.body.statements(), code.body.jumps(), least))
 }
 
 /// The least fault with those inside a block.
 #[tactic(auto, unfolding(crate::specs::Faults::least_of))]
 fn take_inner(
     alloc: Global,
-    block: usize,
     source: &SourceBlock,
-    found: Option<SourceFault>,
-) -> Result<Option<SourceFault>, AllocError>
-    ensures { IfOk result (λ f. f ≡ least_of found (inner_faults block source.now)) }
+    found: Option<Fault>,
+) -> Result<Option<Fault>, AllocError>
+    ensures { IfOk result (λ f. f ≡ least_of found (inner_faults source.now)) }
 {
     match source {
-        SourceBlock::Code(code) => take_code(alloc, block, code, found),
+        SourceBlock::Code(code) => take_code(alloc, code, found),
         SourceBlock::Data(_) => Ok(found),
     }
 }
@@ -292,6 +256,16 @@ impl SourceBlock {
         match self {
             SourceBlock::Code(code) => code.line,
             SourceBlock::Data(data) => data.line,
+        }
+    }
+
+    /// The column of its head.
+    fn column(&self) -> u32
+        ensures { result ≡ column_of self.now }
+    {
+        match self {
+            SourceBlock::Code(code) => code.column,
+            SourceBlock::Data(data) => data.column,
         }
     }
 }
@@ -361,21 +335,19 @@ fn is_too_large(totals: Totals, block: &SourceBlock) -> bool
 #[tactic(auto, unfolding(crate::specs::Faults::least_of))]
 fn take_at_head(
     there: bool,
-    number: usize,
     kind: FaultKind,
     block: &SourceBlock,
-    found: Option<SourceFault>,
-) -> Option<SourceFault>
-    ensures { result ≡ least_of found (at_head there number kind block.now) }
+    found: Option<Fault>,
+) -> Option<Fault>
+    ensures { result ≡ least_of found (at_head there kind block.now) }
 {
     if there {
         lesser(
             found,
-            SourceFault {
-                block: number,
-                statement: 0,
+            Fault {
                 kind,
                 line: block.line(),
+                column: block.column(),
             },
         )
     } else {
@@ -389,25 +361,19 @@ fn take_head(
     number: usize,
     totals: Totals,
     block: &SourceBlock,
-    found: Option<SourceFault>,
-) -> Option<SourceFault>
+    found: Option<Fault>,
+) -> Option<Fault>
     ensures { result ≡ least_of found (head_faults taken number totals block.now) }
 {
-    let double = take_at_head(taken, number, FaultKind::DoubleBlock, block, found);
-    let many = take_at_head(
-        number == 257,
-        number,
-        FaultKind::TooManyBlocks,
-        block,
-        double,
-    );
+    let double = take_at_head(taken, FaultKind::DoubleBlock, block, found);
+    let many = take_at_head(number == 257, FaultKind::TooManyBlocks, block, double);
     let too_large = is_too_large(totals, block);
-    take_at_head(too_large, number, FaultKind::TooLarge, block, many)
+    take_at_head(too_large, FaultKind::TooLarge, block, many)
 }
 
 /// The least fault with that of OB1 where it isn't there.
 #[tactic(auto, unfolding(crate::specs::Faults::least_of))]
-fn take_missing(has_ob1: bool, found: Option<SourceFault>) -> Option<SourceFault>
+fn take_missing(has_ob1: bool, found: Option<Fault>) -> Option<Fault>
     ensures { result ≡ least_of found (missing has_ob1) }
 {
     if has_ob1 {
@@ -415,18 +381,17 @@ fn take_missing(has_ob1: bool, found: Option<SourceFault>) -> Option<SourceFault
     } else {
         lesser(
             found,
-            SourceFault {
-                block: 0,
-                statement: 0,
+            Fault {
                 kind: FaultKind::NoOb1,
                 line: 0,
+                column: 0,
             },
         )
     }
 }
 
 /// The first fault of the whole source.
-pub fn first_fault(alloc: Global, blocks: &[SourceBlock]) -> Result<Option<SourceFault>, AllocError>
+pub fn first_fault(alloc: Global, blocks: &[SourceBlock]) -> Result<Option<Fault>, AllocError>
     ensures { IfOk result (λ f. f ≡ first_fault blocks.now) }
 {
     let mut names: IndexSet<[u8; 2]> = IndexSet::new(alloc);
@@ -442,24 +407,14 @@ pub fn first_fault(alloc: Global, blocks: &[SourceBlock]) -> Result<Option<Sourc
         number += 1;
         totals = counted(totals, block);
         least = take_head(taken, number, totals, block, least);
-        least = take_inner(alloc, number, block, least)?;
+        least = take_inner(alloc, block, least)?;
     }
     Ok(take_missing(names.contains(&[0, 1]), least))
-}
-
-/// What is told of a fault.
-pub fn told_of_source(fault: SourceFault) -> LoadFault
-    ensures { result ≡ told_of_source fault }
-{
-    LoadFault {
-        kind: fault.kind.number(),
-        line: fault.line,
-    }
 }
 
 /// The fault that is found is one of all faults, and none of them stands before it. None is found only where there
 /// is none.
 pub fn least_fault_law()
-    ensures some { (fs : List SourceFault) (f : SourceFault) → least_of None fs ≡ Some f → IsLeast f fs }
-    ensures none { (fs : List SourceFault) → least_of None fs ≡ None → fs ≡ [] }
+    ensures some { (fs : List Fault) (f : Fault) → least_of None fs ≡ Some f → IsLeast f fs }
+    ensures none { (fs : List Fault) → least_of None fs ≡ None → fs ≡ [] }
 {}

@@ -19,12 +19,13 @@ pub enum BlockKind {
     Data,
 }
 
-/// A block's kind and number, and the line that its head begins in.
+/// A block's kind and number, and the line and the column that its head begins at.
 #[derive(Clone, Copy, Debug, PartialEq, Eq)]
 pub struct Heading {
     pub kind: BlockKind,
     pub number: u8,
     pub line: u32,
+    pub column: u32,
 }
 
 /// The kind of block that a word begins.
@@ -45,7 +46,7 @@ fn kind_of(text: &[u8], token: Token) -> Option<BlockKind>
     }
 }
 
-/// The word that a block begins with: its kind, and the line.
+/// The word that a block begins with, and its kind.
 fn kind_at<'a>(text: &[u8], tokens: &'a [Token]) -> Result<(BlockKind, Token, &'a [Token]), Fault>
     requires { length text.now ≤ 1048576 }
     ensures { Gives (λ x. (x.0, x.1, x.2.now)) result (kind_at text.now tokens.now) }
@@ -152,6 +153,7 @@ pub fn heading_at<'a>(text: &[u8], tokens: &'a [Token]) -> Result<(Heading, &'a 
             kind,
             number,
             line: first.line,
+            column: first.column,
         },
         rest,
     ))

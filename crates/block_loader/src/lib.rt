@@ -9,7 +9,7 @@ mod laws;
 mod loading;
 
 pub use error::LoadError;
-pub use faults::{SourceFault, least_fault_law};
+pub use faults::least_fault_law;
 pub use laws::more_turns_read_the_same;
 pub use loading::load;
 pub use stl_lex::LoadFault;

@@ -13,7 +13,7 @@ ghost use Rattle.block_loader.specs.Sound.{IsSoundBlock};
 
 use crate::blocks::{SourceBlock, SourceCode, SourceData, blocks_of};
 use crate::error::LoadError;
-use crate::faults::{first_fault, kind_byte, labels_of, told_of_source};
+use crate::faults::{first_fault, kind_byte, labels_of};
 use indexmap::IndexMap;
 use s7_base::{Blocks, CodeBlock, DataBlock, Statement};
 use std::alloc::{AllocFailed, Global};
@@ -91,7 +91,7 @@ fn landed(alloc: Global, body: &Body) -> Result<Vec<Statement>, LoadError>
     ensures exact { IfOk result (λ v. v.items ≡ landed body.now) }
     ensures memory { IfErr result (λ e. e ≡ NoMemory) }
 {
-    let (names, _) = labels_of(alloc, 0, body.labels(), None)?;
+    let (names, _) = labels_of(alloc, body.labels(), None)?;
     let mut statements = plain(alloc, body.statements())?;
     set_targets(&mut statements, &names, body.jumps());
     Ok(statements)
@@ -205,7 +205,7 @@ fn sources_of(alloc: Global, text: &[u8]) -> Result<Vec<SourceBlock>, LoadError>
     let list = tokens(alloc, text)?;
     let blocks = blocks_of(alloc, text, &list)?;
     match first_fault(alloc, blocks.as_slice())? {
-        Some(fault) => Err(LoadError::Fault(told_of_source(fault))),
+        Some(fault) => Err(LoadError::Fault(fault.told())),
         None => Ok(blocks),
     }
 }

@@ -23,3 +23,9 @@ pub mod Spread
 pub mod Types
 pub mod Typed
 pub mod Values
+pub mod FirstValues
+pub mod Declared
+pub mod Sections
+pub mod Assigned
+pub mod Heads
+pub mod Bodies

@@ -12,7 +12,7 @@ use Rattle.stl_decl.specs.Places.{Place}
 use Rattle.stl_decl.specs.Types.{rank, is_int, int_value, element_bit}
 use Rattle.stl_decl.specs.Layout.{Section, variable_of}
 use Rattle.stl_decl.specs.Steps.{◌>>=◌, spelling, upper, fault_at, is_sign, integer_at, sign_at, maybe_sign_at}
-use Rattle.stl_decl.specs.Elements.{element_above, index_of, indexed_at, single_at, element_by}
+use Rattle.stl_decl.specs.Elements.{element_above, index_of, indexed_at, no_index, single_at, element_by}
 use Rattle.stl_reader.specs.declared.forms.OperandForm.{OperandForm}
 use Rattle.stl_reader.specs.declared.forms.OperandForm.TheVariants as forms
 use Rattle.stl_reader.specs.declared.addresses.Operand.{Operand}
@@ -60,7 +60,7 @@ rank_below true (suc n) first last h = omega arith
 
 -- the element that an index names
 module _ (place : Place) where
-  element_is : (n : SignedNumber) (k : ℕ) → index_of place.shape n ≡ Ok k → IsElement place n.negative n.magnitude k
+  pub element_is : (n : SignedNumber) (k : ℕ) → index_of place.shape n ≡ Ok k → IsElement place n.negative n.magnitude k
   element_is n k e =
       let low = rank place.shape.low in
       let here = rank (int_value n) in
@@ -87,10 +87,10 @@ module _ (text : List ℕ) (temps : Section) (mnemonic : List ℕ) (first : Toke
   abbrev Reads : Type 0
   Reads = IsReadAs text temps mnemonic (first ∷ rest) x
 
-  single_takes : (place : Place) → IsName text temps place first → suits_mnemonic mnemonic (local_form place.shape.simple) ≡ true → (single_at place.shape first rest >>= λ element. Ok (local_at place.shape.simple (element_bit place element.0), element.1, element.2)) ≡ Ok x → Reads
+  single_takes : (place : Place) → IsName text temps place first → suits_mnemonic mnemonic (local_form place.shape.simple) ≡ true → (single_at text place.shape first rest >>= λ element. Ok (local_at place.shape.simple (element_bit place element.0), element.1, element.2)) ≡ Ok x → Reads
   single_takes place name fits e =
-      let s = bind_ok (single_at place.shape first rest) (λ element. Ok (local_at place.shape.simple (element_bit place element.0), element.1, element.2)) x e in
-      let p = if_not place.shape.is_array (fault_at BadOperand first) (Ok (0, first, rest)) s.0 s.1 in
+      let s = bind_ok (single_at text place.shape first rest) (λ element. Ok (local_at place.shape.simple (element_bit place element.0), element.1, element.2)) x e in
+      let p = if_not place.shape.is_array (no_index text first rest) (Ok (0, first, rest)) s.0 s.1 in
       let here : (0, first, rest) ≡ s.0 = same_ok (0, first, rest) s.0 p.1 in
       let h = suits mnemonic place.shape.simple place.first_bit fits in
       let at : element_bit place 0 ≡ place.first_bit = omega arith in

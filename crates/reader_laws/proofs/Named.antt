@@ -66,7 +66,7 @@ above_again low here count k n is within =
     let few : here - low < count = omega (arith, so, within) in
     rw (le-ltb here low from, lt-leb count (here - low) few, so) refl
 
-index_again : (place : Place) (n : SignedNumber) (k : ℕ) → IsElement place n.negative n.magnitude k → index_of place.shape n ≡ Ok k
+pub index_again : (place : Place) (n : SignedNumber) (k : ℕ) → IsElement place n.negative n.magnitude k → index_of place.shape n ≡ Ok k
 index_again place n k h =
     let here : rank (int_value n) ≡ rank place.shape.low + k = rank_below n.negative n.magnitude n.first n.last h.range ∙ h.above in
     rw (h.is_array, h.range) (above_again (rank place.shape.low) (rank (int_value n)) place.shape.count k n here h.within)

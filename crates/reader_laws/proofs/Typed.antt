@@ -79,7 +79,7 @@ module _ (text : List ℕ) where
       by false is true e = absurd cc
       by false is false e = absurd cc
 
-  of_takes : (word : List ℕ) (tokens : List Token) (x : Token × List Token) → word_at text word tokens ≡ Ok x → TakesToken (λ t. is_word text t word ≡ true) tokens x
+  pub of_takes : (word : List ℕ) (tokens : List Token) (x : Token × List Token) → word_at text word tokens ≡ Ok x → TakesToken (λ t. is_word text t word ≡ true) tokens x
   of_takes word [] x e = absurd cc
   of_takes word (t ∷ ts) x e =
       let p = if_ok (is_word text t word) (Ok (t, ts)) (unfit text t) x e in

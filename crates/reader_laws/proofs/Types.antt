@@ -69,10 +69,10 @@ last_behind a y [] ys = refl
 last_behind a y (x ∷ xs) ys = last_behind x y xs ys
 
 module _ (text : List ℕ) where
-  sign_again : (sign : List ℕ) (t : Token) (ts : List Token) → IsSign text sign t → sign_at text sign (t ∷ ts) ≡ Ok (t, ts)
+  pub sign_again : (sign : List ℕ) (t : Token) (ts : List Token) → IsSign text sign t → sign_at text sign (t ∷ ts) ≡ Ok (t, ts)
   sign_again sign t ts h = rw h refl
 
-  word_again : (word : List ℕ) (t : Token) (ts : List Token) → is_word text t word ≡ true → word_at text word (t ∷ ts) ≡ Ok (t, ts)
+  pub word_again : (word : List ℕ) (t : Token) (ts : List Token) → is_word text t word ≡ true → word_at text word (t ∷ ts) ≡ Ok (t, ts)
   word_again word t ts h = rw h refl
 
   closing_again : (t : Token) (ts : List Token) → IsSign text (codes "]") t → closing_at text (t ∷ ts) ≡ Ok (t, ts)

@@ -26,7 +26,7 @@ no_number text kinds.Word t c e = refl
 no_number text _ t c e = absurd cc
 
 module _ (text : List ℕ) where
-  token_begins : (t : Token) (c : Constant) → constant_of text t ≡ Some c → begins_integer text t ≡ false
+  pub token_begins : (t : Token) (c : Constant) → constant_of text t ≡ Some c → begins_integer text t ≡ false
   unfolding constant_of
   token_begins t c e = no_number text t.kind t c e
 

@@ -6,3 +6,8 @@ pub mod Spelled
 pub mod Pieces
 pub mod Types
 pub mod Values
+pub mod FirstValues
+pub mod Declared
+pub mod Sections
+pub mod Heads
+pub mod Bodies

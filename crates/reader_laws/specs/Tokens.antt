@@ -1,5 +1,5 @@
 -- What one token is in the language: a number, a word of a table, a data block's name.
-use Rattle.std.specs.Prelude.{◌≡◌, ℕ, List, [], ◌∷◌, min, true, ◌⊎◌}
+use Rattle.std.specs.Prelude.{◌≡◌, ℕ, List, [], ◌∷◌, ◌++◌, min, true, ◌⊎◌}
 use Rattle.stl_lex.specs.Bytes.{spells, letters_of}
 use Rattle.stl_lex.specs.declared.token.Token.{Token}
 use Rattle.stl_decl.specs.Steps.{spelling, is_number_kind, is_word_kind, is_sign, number_of}
@@ -25,3 +25,9 @@ pub record IsRowWord (text : List ℕ) (row : OperandWord) (t : Token) : Type 0 
   pub kind : is_word_kind t.kind ≡ true
   pub listed : IsOneOf row operand_words
   pub letters : spells (letters_of row.spelling) (spelling text t) ≡ true
+
+-- what was read is spelled by the tokens that it took, and the others are left
+pub record IsRead {A : Type 0} (Spells : A → List Token → Type 0) (tokens : List Token) (x : A × List Token) : Type 0 where
+  pub front : List Token
+  pub cut : tokens ≡ front ++ x.1
+  pub spelled : Spells x.0 front

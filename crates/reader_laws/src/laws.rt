@@ -5,6 +5,10 @@ ghost use Rattle.reader_laws.specs.Spelled.{WordsSpelledAreFound, AddressesSpell
 ghost use Rattle.reader_laws.specs.Pieces.{PartsAreTokens};
 ghost use Rattle.reader_laws.specs.Types.{TypesReadAreSpelled, TypesSpelledAreRead};
 ghost use Rattle.reader_laws.specs.Values.{ValuesReadAreSpelled, ValuesSpelledAreRead};
+ghost use Rattle.reader_laws.specs.Declared.{DeclarationsReadAreSpelled, DeclarationsSpelledAreRead};
+ghost use Rattle.reader_laws.specs.Sections.{SectionsReadAreSpelled, SectionsSpelledAreRead, TemporariesReadAreSpelled, TemporariesSpelledAreRead, StructuresReadAreSpelled, StructuresSpelledAreRead, AssignmentsReadAreSpelled, AssignmentsSpelledAreRead};
+ghost use Rattle.reader_laws.specs.Heads.{HeadingsReadAreSpelled, HeadingsSpelledAreRead, HeadsReadAreSpelled, HeadsSpelledAreRead};
+ghost use Rattle.reader_laws.specs.Bodies.{BodiesReadAreSpelled, BodiesSpelledAreRead};
 ghost use Rattle.reader_laws.specs.Tables.{WordsSayTheirOperands, OneOperationForAnOperand, FormsStandApart};
 
 /// What is read as an operand is spelled so, by the tables of the language: its word says its area and its unit, its
@@ -118,4 +122,91 @@ pub fn values_read_are_spelled()
 /// What is spelled as a value that suits the type is read as that value and as no other, whatever follows it.
 pub fn values_spelled_are_read()
     ensures { ValuesSpelledAreRead }
+{}
+
+/// What is read as a declaration is spelled so: a name that isn't declared yet, perhaps an attribute, `:`, a type, in a
+/// STRUCT perhaps `:=` and first values with commas between, each a value or `n (value)`, and `;`. The values are those
+/// of the elements one behind the other, and none is past the last.
+pub fn declarations_read_are_spelled()
+    ensures { DeclarationsReadAreSpelled }
+{}
+
+/// What is spelled as a declaration is read as that declaration and as no other, whatever follows it.
+pub fn declarations_spelled_are_read()
+    ensures { DeclarationsSpelledAreRead }
+{}
+
+/// What is read as a section is spelled so: declarations, none of which begins with the end word, and the end word.
+pub fn sections_read_are_spelled()
+    ensures { SectionsReadAreSpelled }
+{}
+
+/// What is spelled as a section is read as it and as no other, whatever follows it.
+pub fn sections_spelled_are_read()
+    ensures { SectionsSpelledAreRead }
+{}
+
+/// What is read as the temporary names of a block is spelled so: sections behind VAR_TEMP, or none, and no other section
+/// follows.
+pub fn temporaries_read_are_spelled()
+    ensures { TemporariesReadAreSpelled }
+{}
+
+/// What is spelled as the temporary names of a block is read as they are and as no others, whatever follows them but
+/// another section.
+pub fn temporaries_spelled_are_read()
+    ensures { TemporariesSpelledAreRead }
+{}
+
+/// What is read as the names of a data block is spelled so: STRUCT, a section and perhaps `;`.
+pub fn structures_read_are_spelled()
+    ensures { StructuresReadAreSpelled }
+{}
+
+/// What is spelled as the names of a data block is read as they are and as no others, whatever follows them but `;`.
+pub fn structures_spelled_are_read()
+    ensures { StructuresSpelledAreRead }
+{}
+
+/// What is read as the assignments of a data block is spelled so: declared names, an array with the index of its element,
+/// `:=`, a value of the type and `;`, and END_DATA_BLOCK behind them.
+pub fn assignments_read_are_spelled()
+    ensures { AssignmentsReadAreSpelled }
+{}
+
+/// What is spelled as the assignments of a data block is read as they are and as no others, whatever follows them.
+pub fn assignments_spelled_are_read()
+    ensures { AssignmentsSpelledAreRead }
+{}
+
+/// What is read as the first line of a block is spelled so: the two words of its kind, a number that a block of the kind may
+/// have, and `: VOID` behind that of a function.
+pub fn headings_read_are_spelled()
+    ensures { HeadingsReadAreSpelled }
+{}
+
+/// What is spelled as the first line of a block is read as it and as no other, whatever follows it.
+pub fn headings_spelled_are_read()
+    ensures { HeadingsSpelledAreRead }
+{}
+
+/// What is passed over as heads of a block is spelled so: titles, attributes, KNOW_HOW_PROTECT, owners and versions.
+pub fn heads_read_are_spelled()
+    ensures { HeadsReadAreSpelled }
+{}
+
+/// What is spelled as heads of a block is passed over, whatever follows it but another head.
+pub fn heads_spelled_are_read()
+    ensures { HeadsSpelledAreRead }
+{}
+
+/// What is read as the body of a code block is spelled so: headings of networks, and statements or nothing with `;`, each
+/// behind its label or without one, up to the end word, before which a label may stand alone.
+pub fn bodies_read_are_spelled()
+    ensures { BodiesReadAreSpelled }
+{}
+
+/// What is spelled as the body of a code block is read as it and as no other, whatever follows it.
+pub fn bodies_spelled_are_read()
+    ensures { BodiesSpelledAreRead }
 {}

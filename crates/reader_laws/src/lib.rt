@@ -4,11 +4,16 @@
 mod laws;
 
 pub use laws::{
-    addresses_spelled_are_read, comparisons_spelled_are_read, data_addresses_spelled_are_read,
-    forms_stand_apart, instances_spelled_are_read, labels_spelled_are_read,
-    literals_spelled_are_read, one_operation_for_an_operand, operands_read_are_spelled,
-    operands_spelled_are_read, parts_are_tokens, statements_read_are_spelled,
-    statements_spelled_are_read, system_functions_spelled_are_read, types_read_are_spelled,
-    types_spelled_are_read, values_read_are_spelled, values_spelled_are_read,
-    words_say_their_operands, words_spelled_are_found,
+    addresses_spelled_are_read, assignments_read_are_spelled, assignments_spelled_are_read,
+    bodies_read_are_spelled, bodies_spelled_are_read, comparisons_spelled_are_read,
+    data_addresses_spelled_are_read, declarations_read_are_spelled, declarations_spelled_are_read,
+    forms_stand_apart, headings_read_are_spelled, headings_spelled_are_read,
+    heads_read_are_spelled, heads_spelled_are_read, instances_spelled_are_read,
+    labels_spelled_are_read, literals_spelled_are_read, one_operation_for_an_operand,
+    operands_read_are_spelled, operands_spelled_are_read, parts_are_tokens,
+    sections_read_are_spelled, sections_spelled_are_read, statements_read_are_spelled,
+    statements_spelled_are_read, structures_read_are_spelled, structures_spelled_are_read,
+    system_functions_spelled_are_read, temporaries_read_are_spelled, temporaries_spelled_are_read,
+    types_read_are_spelled, types_spelled_are_read, values_read_are_spelled,
+    values_spelled_are_read, words_say_their_operands, words_spelled_are_found,
 };

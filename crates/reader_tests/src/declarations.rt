@@ -186,7 +186,7 @@ fn faults(rt: HostRuntime) -> Result<(), Fail> {
 
 #[test]
 fn values(rt: HostRuntime) -> Result<(), Fail> {
-    let rows: [(&[u8], &[u8]); 14] = [
+    let rows: [(&[u8], &[u8]); 15] = [
         (
             b"STRUCT a:BOOL:=TRUE;b:BOOL;c:BOOL:=true;d:BYTE:=B#16#A5;e:CHAR:='x';f:WORD:=W#16#1234;g:INT:=-2;h:S5TIME:=S5T#2S;i:DWORD:=DW#16#89ABCDEF;j:DINT:=L#-1;k:TIME:=T#1S;END_STRUCT BEGIN END_DATA_BLOCK",
             b"05A578001234FFFE020089ABCDEFFFFFFFFF000003E8",
@@ -206,6 +206,10 @@ fn values(rt: HostRuntime) -> Result<(), Fail> {
         (b"STRUCT END_STRUCT BEGIN END_DATA_BLOCK", b""),
         (b"STRUCT a:INT;END_STRUCT BEGIN\nb:=1;", b"!12 2"),
         (b"STRUCT a:INT;END_STRUCT BEGIN a[\n0]:=1;", b"!11 2"),
+        (
+            b"STRUCT a:ARRAY[1..2]OF INT;END_STRUCT BEGIN\na //\n//\n",
+            b"!13 3",
+        ),
         (
             b"STRUCT a:ARRAY[1..2]OF INT;END_STRUCT BEGIN\na\n:=1;",
             b"!11 2",

@@ -614,7 +614,7 @@ fn kinds_of_blocks(rt: HostRuntime) -> Result<(), Fail> {
     Ok(())
 }
 
-/// Labels, jumps, lines, headings, and the token behind the end word.
+/// Labels, jumps, lines and columns, headings, and the token behind the end word.
 #[test]
 fn lists(rt: HostRuntime) -> Result<(), Fail> {
     let text =
@@ -630,24 +630,30 @@ fn lists(rt: HostRuntime) -> Result<(), Fail> {
     assert_eq!(rt; behind as usize + 1, found.as_slice().len());
     let mut lines = Vec::new(rt.alloc());
     for line in read.statements() {
-        lines.push((line.statement.op, line.line))?;
+        lines.push((line.statement.op, line.line, line.column))?;
     }
-    assert_eq!(rt; lines.as_slice(), [(84, 3), (125, 4), (85, 5)].as_slice());
+    assert_eq!(rt;
+        lines.as_slice(),
+        [(84, 3, 7), (125, 4, 9), (85, 5, 4)].as_slice()
+    );
     let labels = [
         Label {
             name: *b"M001",
             statement: 0,
             line: 3,
+            column: 1,
         },
         Label {
             name: *b"M002",
             statement: 1,
             line: 4,
+            column: 2,
         },
         Label {
             name: *b"END\0",
             statement: 3,
             line: 6,
+            column: 1,
         },
     ];
     assert_eq!(rt; read.labels(), labels.as_slice());

@@ -15,7 +15,7 @@ use Rattle.stl_decl.specs.Types.{is_int, type_row}
 use Rattle.stl_decl.specs.Constants.{integer_value, integer_value_at, single_value, value_at, begins_integer, constant_of, integer_constant}
 use Rattle.stl_decl.specs.Places.{Place}
 use Rattle.stl_decl.specs.Layout.{Section}
-use Rattle.stl_decl.specs.Elements.{index_of, indexed_at, element_by, element_at}
+use Rattle.stl_decl.specs.Elements.{index_of, indexed_at, no_index, element_by, element_at}
 use Rattle.stl_decl.specs.Initials.{is_repetition, has_room, suited, value_of_type_at, repetition_at, one_at, initial_at}
 use Rattle.stl_decl.specs.Declarations.{meant, by_row, simple_at, bounded, bound_at, count_between, closing_at, array_at, plain_at, shape_by, shape_at, is_attribute_kind, skip_attribute}
 use Rattle.stl_decl.specs.Sections.{is_left_out, opening_at, skip_semicolon, declared_name, assignment_at}
@@ -164,7 +164,7 @@ module _ (text : List ℕ) where
 
   element_by_leaves : (found : Option (Token × List Token)) (shape : Shape) (name : Token) (tokens : List Token) → maybe_sign_at text (codes "[") tokens ≡ found → Leaves third (suc (length tokens)) (element_by found text shape name tokens)
   element_by_leaves (Some x) shape name tokens e = let less = maybe_sign_leaves (codes "[") tokens x e in wider (indexed_leaves shape x.1) (omega arith)
-  element_by_leaves None shape name tokens e = either third _ shape.is_array _ _ (refused third _ (fault_at BadOperand name)) (given third _ (0, name, tokens) (omega arith))
+  element_by_leaves None shape name tokens e = either third _ shape.is_array _ _ (refused third _ (no_index text name tokens)) (given third _ (0, name, tokens) (omega arith))
 
   element_leaves : (shape : Shape) (name : Token) (tokens : List Token) → Leaves third (suc (length tokens)) (element_at text shape name tokens)
   element_leaves shape name tokens = element_by_leaves (maybe_sign_at text (codes "[") tokens) shape name tokens refl

@@ -1,7 +1,7 @@
 -- Elements of declared names.
-use Rattle.std.specs.Prelude.{ℕ, List, ◌-◌, ◌||◌, not, nat_lt, nat_le, Option, Some, None, Result, Ok, Err, if◌then◌else◌, codes}
+use Rattle.std.specs.Prelude.{ℕ, List, [], ◌∷◌, ◌-◌, ◌||◌, not, nat_lt, nat_le, Option, Some, None, Result, Ok, Err, if◌then◌else◌, codes}
 use Rattle.stl_lex.specs.declared.token.Token.{Token}
-use Rattle.stl_decl.specs.Steps.{◌>>=◌, fault_at, integer_at, sign_at, maybe_sign_at}
+use Rattle.stl_decl.specs.Steps.{◌>>=◌, end_fault, fault_at, integer_at, sign_at, maybe_sign_at}
 use Rattle.stl_decl.specs.Types.{is_int, int_value, rank}
 use Rattle.stl_decl.specs.declared.fault.Fault.{Fault}
 use Rattle.stl_decl.specs.declared.fault.FaultKind.TheVariants.{BadOperand}
@@ -27,13 +27,18 @@ indexed_at text shape tokens = do
   closing ← sign_at text (codes "]") index.1
   Ok (k, closing.0, closing.1)
 
+-- an array without an index: the text ends before its `[`, or something else stands there
+abbrev pub no_index : List ℕ → Token → List Token → Fault
+no_index text name [] = end_fault text
+no_index text name (t ∷ ts) = fault_at BadOperand name
+
 -- a name without an index is no array
-abbrev pub single_at : Shape → Token → List Token → Result (ℕ × Token × List Token) Fault
-single_at shape name tokens = if shape.is_array then Err (fault_at BadOperand name) else Ok (0, name, tokens)
+abbrev pub single_at : List ℕ → Shape → Token → List Token → Result (ℕ × Token × List Token) Fault
+single_at text shape name tokens = if shape.is_array then Err (no_index text name tokens) else Ok (0, name, tokens)
 
 abbrev pub element_by : Option (Token × List Token) → List ℕ → Shape → Token → List Token → Result (ℕ × Token × List Token) Fault
 element_by (Some x) text shape name tokens = indexed_at text shape x.1
-element_by None text shape name tokens = single_at shape name tokens
+element_by None text shape name tokens = single_at text shape name tokens
 
 -- [ "[" int "]" ]
 abbrev pub element_at : List ℕ → Shape → Token → List Token → Result (ℕ × Token × List Token) Fault

@@ -134,7 +134,7 @@ impl<T: Drop> From<AllocFailed<T>> for StepError {
 /// Why declarations weren't read.
 #[derive(Clone, Copy, Debug, PartialEq, Eq, Error)]
 pub enum DeclError {
-    /// The declarations have a fault: of the kinds 5 to 8, 11 to 13 and 21.
+    /// The declarations have a fault: of the kinds 5 to 8, 11, 13 and 21.
     #[error("line {}: fault {}", .0.line, .0.kind)]
     Fault(LoadFault),
     /// Memory ran out.

@@ -262,7 +262,8 @@ fn from_here<'a>(
     requires text { length text.now ≤ 1048576 }
     requires tokens { length tokens.now ≤ 1048576 }
     requires from { from ≤ length tokens.now }
-    ensures { GivesOr (λ x. x) result (declarations_of text.now tokens.now from) }
+    ensures exact { GivesOr (λ x. x) result (declarations_of text.now tokens.now from) }
+    ensures within { IfOk result (λ x. x.1 ≤ length tokens.now) }
 {
     let (layout, rest) = layout_at(alloc, text, &tokens[from as usize..])?;
     Ok((layout, (tokens.len().saturating_sub(rest.len())) as u32))
@@ -285,7 +286,8 @@ pub fn declarations(
     requires text { length text.now ≤ 1048576 }
     requires tokens { length tokens.now ≤ 1048576 }
     requires from { from ≤ length tokens.now }
-    ensures { Tells result (told_of (declarations_of text.now tokens.now from)) }
+    ensures exact { Tells result (told_of (declarations_of text.now tokens.now from)) }
+    ensures within { IfOk result (λ x. x.1 ≤ length tokens.now) }
 {
     match from_here(alloc, text, tokens.as_slice(), from) {
         Ok(found) => Ok(found),

@@ -42,8 +42,8 @@ module _ (text : List ℕ) (kind : CodeKind) (temps : Section) where
   unfolding labelled_item
   labelled_item_takes label first tokens x e =
       let s = bind_ok (statement_at text (block_locals kind temps) temps tokens) _ x e in
-      let same : (record { label = label; statement = Some (record { statement = s.0.0; line = first.line }); target = s.0.1 }, s.0.2) ≡ x = let f = s.2 in cc in
-      subst (λ y. IsGood (block_locals kind temps) y.0) same (stated label (record { statement = s.0.0; line = first.line }) s.0.1 (statement_takes text (block_locals kind temps) temps tokens s.0 s.1))
+      let same : (record { label = label; statement = Some (record { statement = s.0.0; line = first.line; column = first.column }); target = s.0.1 }, s.0.2) ≡ x = let f = s.2 in cc in
+      subst (λ y. IsGood (block_locals kind temps) y.0) same (stated label (record { statement = s.0.0; line = first.line; column = first.column }) s.0.1 (statement_takes text (block_locals kind temps) temps tokens s.0 s.1))
 
   labelled_takes : (label : Option LabelName) (tokens : List Token) (x : Item × List Token) → labelled_at text kind temps label tokens ≡ Ok x → IsGood (block_locals kind temps) x.0
   labelled_takes label [] x e = absurd cc
@@ -100,7 +100,7 @@ module _ (locals : ℕ) where
 
   item_labels : (most : ℕ) (label : Option LabelName) (n : ℕ) → n ≤ most → All (λ l. l.statement ≤ most) (labels_of label n)
   item_labels most None n h = All-nil (λ l. l.statement ≤ most)
-  item_labels most (Some label) n h = All-cons (λ l. l.statement ≤ most) (record { name = label.name; statement = n; line = label.line }) [] h (All-nil (λ l. l.statement ≤ most))
+  item_labels most (Some label) n h = All-cons (λ l. l.statement ≤ most) (record { name = label.name; statement = n; line = label.line; column = label.column }) [] h (All-nil (λ l. l.statement ≤ most))
 
   longer : (xs ys : List BodyStatement) → length xs ≤ length (xs ++ ys)
   longer xs ys = let e = length-append xs ys in omega arith

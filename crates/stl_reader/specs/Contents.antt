@@ -5,7 +5,7 @@ use Rattle.stl_reader.specs.declared.contents.Label.{Label}
 use Rattle.stl_reader.specs.declared.contents.Jump.{Jump}
 use Rattle.stl_reader.specs.declared.contents.Lists.{Lists}
 
--- a body: its statements, each with its line, its labels and its jumps
+-- a body: its statements, each with its line and column, its labels and its jumps
 pub record Contents : Type 0 where
   pub statements : List BodyStatement
   pub labels : List Label

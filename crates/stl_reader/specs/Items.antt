@@ -28,7 +28,7 @@ block_locals kind temps = locals_of kind (min (size_of temps) 4294967295)
 
 abbrev pub label_by : Option (List ℕ) → Token → List Token → Option (LabelName × List Token)
 label_by None t ts = None
-label_by (Some name) t ts = Some (record { name = name; line = t.line }, ts)
+label_by (Some name) t ts = Some (record { name = name; line = t.line; column = t.column }, ts)
 
 -- a word of at most four letters and a colon
 abbrev pub label_at : List ℕ → List Token → Option (LabelName × List Token)
@@ -41,11 +41,11 @@ label_at text (t ∷ u ∷ ts) =
 abbrev pub bare : Option LabelName → Item
 bare label = record { label = label; statement = None; target = None }
 
--- a statement behind a label, or without one; its line is that of its mnemonic
+-- a statement behind a label, or without one; its line and column are those of its mnemonic
 unfoldable pub labelled_item : List ℕ → CodeKind → Section → Option LabelName → Token → List Token → Result (Item × List Token) Fault
 labelled_item text kind temps label first tokens = do
   s ← statement_at text (block_locals kind temps) temps tokens
-  Ok (record { label = label; statement = Some (record { statement = s.0; line = first.line }); target = s.1 }, s.2)
+  Ok (record { label = label; statement = Some (record { statement = s.0; line = first.line; column = first.column }); target = s.1 }, s.2)
 
 -- [ mnemonic [ operand ] ] ";" behind a label, or without one; before the end word a label stands alone
 abbrev pub labelled_at : List ℕ → CodeKind → Section → Option LabelName → List Token → Result (Item × List Token) Fault

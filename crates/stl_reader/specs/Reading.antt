@@ -27,7 +27,7 @@ empty = record { statements = []; labels = []; jumps = [] }
 
 abbrev pub labels_of : Option LabelName → ℕ → List Label
 labels_of None n = []
-labels_of (Some l) n = record { name = l.name; statement = n; line = l.line } ∷ []
+labels_of (Some l) n = record { name = l.name; statement = n; line = l.line; column = l.column } ∷ []
 
 abbrev pub jumps_of : Option (List ℕ) → ℕ → List Jump
 jumps_of None n = []

@@ -6,12 +6,13 @@ use crate::items::BodyStatement;
 use std::marker::Model;
 
 /// A label: its name, in upper case and filled up with zeros, the number of the statement that it names, counted
-/// from 0, which is the number of statements where it stands at the end, and its line.
+/// from 0, which is the number of statements where it stands at the end, and its line and column.
 #[derive(Clone, Copy, Debug, PartialEq, Eq)]
 pub struct Label {
     pub name: [u8; 4],
     pub statement: u32,
     pub line: u32,
+    pub column: u32,
 }
 
 /// A jump: its number as a statement, and the name of its label, in upper case and filled up with zeros.
@@ -29,7 +30,7 @@ pub struct Lists {
     pub jumps: Vec<Jump>,
 }
 
-/// The body of a code block: its statements in order, each with its line, its labels and its jumps. The value of a
+/// The body of a code block: its statements in order, each with its line and column, its labels and its jumps. The value of a
 /// jump is 0 until its label is looked up.
 #[derive(Drop)]
 pub struct Body {

@@ -13,18 +13,20 @@ use stl_decl::{
 };
 use stl_lex::{Token, TokenKind};
 
-/// A statement, and the line of its mnemonic.
+/// A statement, and the line and the column of its mnemonic.
 #[derive(Clone, Copy, Debug, PartialEq, Eq)]
 pub struct BodyStatement {
     pub statement: Statement,
     pub line: u32,
+    pub column: u32,
 }
 
-/// The name of a label, in upper case and filled up with zeros, and its line.
+/// The name of a label, in upper case and filled up with zeros, and its line and column.
 #[derive(Clone, Copy, Debug, PartialEq, Eq)]
 pub struct LabelName {
     pub name: [u8; 4],
     pub line: u32,
+    pub column: u32,
 }
 
 /// A label, a statement and the label that it jumps to, as far as they are there.
@@ -71,6 +73,7 @@ fn label_at<'a>(text: &[u8], tokens: &'a [Token]) -> Option<(LabelName, &'a [Tok
         LabelName {
             name,
             line: first.line,
+            column: first.column,
         },
         after,
     ))
@@ -109,6 +112,7 @@ fn labelled_item<'a>(
             statement: Some(BodyStatement {
                 statement,
                 line: first.line,
+                column: first.column,
             }),
             target,
         },

@@ -66,6 +66,7 @@ fn keep_label(
             name,
             statement,
             line: label.line,
+            column: label.column,
         })?;
     }
     Ok(())

@@ -26,8 +26,7 @@ loop-block-preserved c =
     ∙ ap (λ (t : Bool). least_of c.loop-block.least (head_faults t (c.loop-block.number + 1) c.counted-totals.result b)) taken
     ∙ ap (λ (n : ℕ). least_of c.loop-block.least (head_faults is_taken n c.counted-totals.result b)) number
     ∙ ap (λ (t : Totals). least_of c.loop-block.least (head_faults is_taken (i + 1) t b)) c.counted-totals.ensures.exact in
-    let inner : c.in_ok-least.least ≡ least_of c.take_head-least.result (inner_faults (i + 1) b) =
-    c.in_ok-least.ensures ∙ ap (λ (n : ℕ). least_of c.take_head-least.result (inner_faults n b)) number in
+    let inner : c.in_ok-least.least ≡ least_of c.take_head-least.result (inner_faults b) = c.in_ok-least.ensures in
     let found = next_block c.args.blocks.now i b front c.loop-block.totals c.loop-block.least c.take_head-least.result c.in_ok-least.least _ (omega arith) c.block-item.is head inner c.loop-block.invariant.found in
     let more = more_names (contains bytes_eq c.loop-block.names) (contains bytes_eq c.insert.new.self) front (name_of b) c.loop-block.invariant.names (subst (λ name. (k : List ℕ) → contains bytes_eq c.insert.new.self k ≡ cond (bytes_eq name k) true (contains bytes_eq c.loop-block.names k)) c.name.ensures c.in_ok-taken.ensures.updates.0) in
     record {

@@ -7,5 +7,5 @@ use Rattle.block_loader.proofs.faults.labels_of.Given as goal
 abbrev pub invariant-loop-label : goal.invariant-loop-label
 invariant-loop-label l = record {
   names : (k : List ℕ) → get bytes_eq l.names k ≡ target (take l.label-index l.labels) k;
-  found : least_of l.least (double_labels l.block (take l.label-index l.labels) (drop l.label-index l.labels)) ≡ least_of l.fn.found (double_labels l.block [] l.labels);
+  found : least_of l.least (double_labels (take l.label-index l.labels) (drop l.label-index l.labels)) ≡ least_of l.fn.found (double_labels [] l.labels);
 }

@@ -6,7 +6,7 @@ use Rattle.block_loader.proofs.Names.{next_one, none_left, no_jump_there}
 use Rattle.block_loader.proofs.faults.take_jumps.Goals as goal
 
 pub loop-jump-preserved : goal.loop-jump-preserved
-loop-jump-preserved c = next_one (λ j. jump_fault c.args.block c.args.statements.now (get bytes_eq c.args.names.now j.name) j) c.args.jumps.now c.loop-jump.jump-index no_jump_there c.loop-jump.least c.take_jump-least.result _ (omega arith) (rw (c.get.ensures.value) at (rw c.copied-target.ensures at c.take_jump-least.ensures)) c.loop-jump.invariant
+loop-jump-preserved c = next_one (λ j. jump_fault c.args.statements.now (get bytes_eq c.args.names.now j.name) j) c.args.jumps.now c.loop-jump.jump-index no_jump_there c.loop-jump.least c.take_jump-least.result _ (omega arith) (rw (c.get.ensures.value) at (rw c.copied-target.ensures at c.take_jump-least.ensures)) c.loop-jump.invariant
 
 pub returns : goal.returns
-returns c = none_left (λ j. jump_fault c.args.block c.args.statements.now (get bytes_eq c.args.names.now j.name) j) c.args.jumps.now c.loop-jump.jump-index no_jump_there c.loop-jump.least _ (omega arith) c.loop-jump.invariant
+returns c = none_left (λ j. jump_fault c.args.statements.now (get bytes_eq c.args.names.now j.name) j) c.args.jumps.now c.loop-jump.jump-index no_jump_there c.loop-jump.least _ (omega arith) c.loop-jump.invariant

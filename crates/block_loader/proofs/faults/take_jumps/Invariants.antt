@@ -7,4 +7,4 @@ use Rattle.block_loader.proofs.faults.take_jumps.Given as goal
 
 abbrev pub invariant-loop-jump : goal.invariant-loop-jump
 invariant-loop-jump l =
-    least_of l.least (flat_map (λ j. jump_fault l.block l.statements (get bytes_eq l.names j.name) j) (drop l.jump-index l.jumps)) ≡ least_of l.fn.found (flat_map (λ j. jump_fault l.block l.statements (get bytes_eq l.names j.name) j) l.jumps)
+    least_of l.least (flat_map (λ j. jump_fault l.statements (get bytes_eq l.names j.name) j) (drop l.jump-index l.jumps)) ≡ least_of l.fn.found (flat_map (λ j. jump_fault l.statements (get bytes_eq l.names j.name) j) l.jumps)
