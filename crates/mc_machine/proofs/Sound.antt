@@ -162,11 +162,11 @@ tick_comes program block at level since before (Some statement) decoded s le =
     ap (λ b. if b then flows program block at level (effect_of statement before).0 (effect_of statement before).1 else Asks (request_of asks.Tick level.priority)) (le-ltb since 256 le)
 
 -- a block that has completed 256 statements asks
-pub run_ticks : (c : Config) (block : BlockRef) (at : ℕ) (level : Level) (decoded : Option Instruction) (r : Request) → r ≡ request_of asks.Tick level.priority → c.place ≡ At block at level Fresh → option_map instruction_of (slice_get (statements_of c.program block) at) ≡ Some decoded → 256 ≤ c.since → Follows (turn_of c.program c.since c.memory c.place) c (Some r) c
-run_ticks c block at level decoded r is p s le =
-    subst (λ t. Follows t c (Some r) c)
+pub run_ticks : (c c' : Config) (block : BlockRef) (at : ℕ) (level : Level) (decoded : Option Instruction) (o : Option Request) → o ≡ Some (request_of asks.Tick level.priority) → c' ≡ c → c.place ≡ At block at level Fresh → option_map instruction_of (slice_get (statements_of c.program block) at) ≡ Some decoded → 256 ≤ c.since → Follows (turn_of c.program c.since c.memory c.place) c o c'
+run_ticks c c' block at level decoded o is same p s le =
+    subst (λ t. Follows t c o c')
     (sym (ap (turn_of c.program c.since c.memory) p ∙ tick_comes c.program block at level c.since c.memory (slice_get (statements_of c.program block) at) decoded s le))
-    (ap Some is, refl)
+    (is, same)
 
 no_statement : (o : Option Statement) → option_map instruction_of o ≡ None → o ≡ None
 no_statement None e = refl

@@ -251,13 +251,15 @@ impl Engine {
     fn run_on(&mut self) -> Request
         requires sound { IsSound (config_of self.old) }
         requires stored { IsStored self.old }
+        requires ready { self.old.waits ≡ None }
         ensures sound { IsSound (config_of self.new) }
         ensures stored { IsStored self.new }
         ensures asks { AsksAt (config_of self.new) result }
         ensures keeps { Keeps (config_of self.old) (config_of self.new) }
     {
         'turns: loop {
-            if let Some(request) = self.step() {
+            self.step();
+            if let Some(request) = self.waits {
                 return request;
             }
         }
@@ -442,57 +444,71 @@ impl Engine {
         self.begin(ob(1), level, frame);
     }
 
-    /// One turn: a statement, the end of a block, or the request that the place asks.
-    fn step(&mut self) -> Option<Request>
+    /// The machine waits at a request.
+    fn wait_at(&mut self, request: Request)
+        ensures stored { IsStored self.old → IsStored self.new }
+        ensures same { config_of self.new ≡ config_of self.old }
+        ensures waits { self.new.waits ≡ Some request }
+    {
+        self.waits = Some(request);
+    }
+
+    /// One turn: a statement, the end of a block, or the request that the place asks. Where it asks, the machine waits.
+    fn step(&mut self)
         requires sound { IsSound (config_of self.old) }
         requires stored { IsStored self.old }
-        ensures turned { Follows (turn_of self.old.program self.old.since self.old.memory (config_of self.old).place) (config_of self.old) result (config_of self.new) }
+        requires ready { self.old.waits ≡ None }
+        ensures turned { Follows (turn_of self.old.program self.old.since self.old.memory (config_of self.old).place) (config_of self.old) self.new.waits (config_of self.new) }
         ensures sound { IsSound (config_of self.new) }
         ensures stored { IsStored self.new }
     {
         match self.spot {
-            Spot::AtOutputs => Some(request(Ask::Outputs(self.memory.outputs()), 1)),
-            Spot::AtInputs => Some(request(Ask::Inputs, 1)),
-            Spot::AtCycle => Some(request(Ask::Cycle, 1)),
-            Spot::AtStop(code) => Some(stop_request(code)),
+            Spot::AtOutputs => {
+                let image = self.memory.outputs();
+                self.wait_at(request(Ask::Outputs(image), 1));
+            }
+            Spot::AtInputs => self.wait_at(request(Ask::Inputs, 1)),
+            Spot::AtCycle => self.wait_at(request(Ask::Cycle, 1)),
+            Spot::AtStop(code) => self.wait_at(stop_request(code)),
             Spot::Over => unreachable!(),
             Spot::At(spot) => self.act(spot),
         }
     }
 
     /// One turn in a block.
-    fn act(&mut self, spot: BlockSpot) -> Option<Request>
+    fn act(&mut self, spot: BlockSpot)
         requires sound { IsSound (config_of self.old) }
         requires stored { IsStored self.old }
+        requires ready { self.old.waits ≡ None }
         requires here { self.old.spot ≡ Spot.At spot }
-        ensures turned { Follows (turn_of self.old.program self.old.since self.old.memory (config_of self.old).place) (config_of self.old) result (config_of self.new) }
+        ensures turned { Follows (turn_of self.old.program self.old.since self.old.memory (config_of self.old).place) (config_of self.old) self.new.waits (config_of self.new) }
         ensures sound { IsSound (config_of self.new) }
         ensures stored { IsStored self.new }
     {
         match spot.mode {
-            Mode::Timing => Some(block_request(Ask::Now, spot.level)),
-            Mode::Ticking => Some(block_request(Ask::Tick, spot.level)),
+            Mode::Timing => self.wait_at(block_request(Ask::Now, spot.level)),
+            Mode::Ticking => self.wait_at(block_request(Ask::Tick, spot.level)),
             Mode::Fresh => self.run(spot),
         }
     }
 
     /// The statement of a place, or the end of its block.
     #[tactic(auto, using(crate::proofs::Sound::high_some))]
-    fn run(&mut self, spot: BlockSpot) -> Option<Request>
+    fn run(&mut self, spot: BlockSpot)
         requires sound { IsSound (config_of self.old) }
         requires stored { IsStored self.old }
+        requires ready { self.old.waits ≡ None }
         requires here { (config_of self.old).place ≡ At spot.block spot.at (level_in spot.level) Fresh }
         requires code { IsCode self.old.program spot.code spot.block }
-        ensures turned { Follows (turn_of self.old.program self.old.since self.old.memory (config_of self.old).place) (config_of self.old) result (config_of self.new) }
+        ensures turned { Follows (turn_of self.old.program self.old.since self.old.memory (config_of self.old).place) (config_of self.old) self.new.waits (config_of self.new) }
         ensures sound { IsSound (config_of self.new) }
         ensures stored { IsStored self.new }
     {
         let Some(statement) = decoded_at(&self.decoded, spot) else {
-            self.leave();
-            return None;
+            return self.leave();
         };
         if self.since >= 256 {
-            return Some(block_request(Ask::Tick, spot.level));
+            return self.wait_at(block_request(Ask::Tick, spot.level));
         }
         let flow = self.memory.perform(statement);
         self.follow(spot, flow)
@@ -513,14 +529,15 @@ impl Engine {
     }
 
     /// Goes where a statement leads.
-    fn follow(&mut self, spot: BlockSpot, flow: Flow) -> Option<Request>
+    fn follow(&mut self, spot: BlockSpot, flow: Flow)
         requires sound { IsSound (config_of self.old) }
         requires stored { IsStored self.old }
+        requires ready { self.old.waits ≡ None }
         requires here { (config_of self.old).place ≡ At spot.block spot.at (level_in spot.level) Fresh }
         requires code { IsCode self.old.program spot.code spot.block }
         requires before { self.old.since < 256 }
         requires within { spot.at + 1 < 2 ^ 64 }
-        ensures turned { Follows (flows self.old.program spot.block spot.at (level_in spot.level) self.old.memory flow) (config_of self.old) result (config_of self.new) }
+        ensures turned { Follows (flows self.old.program spot.block spot.at (level_in spot.level) self.old.memory flow) (config_of self.old) self.new.waits (config_of self.new) }
         ensures sound { IsSound (config_of self.new) }
         ensures stored { IsStored self.new }
     {
@@ -531,11 +548,10 @@ impl Engine {
             Flow::End => end_of(&self.program, spot),
             Flow::Call(callee) => return self.call(callee, spot),
             Flow::Fail(error) => return self.fail_statement(error, spot),
-            Flow::AskNow => return Some(block_request(Ask::Now, spot.level)),
+            Flow::AskNow => return self.wait_at(block_request(Ask::Now, spot.level)),
         };
         self.go_to(next);
         self.since += 1;
-        None
     }
 
     /// A statement failed: a diagnostic entry is made, and its error OB begins, or the CPU asks to stop. How many
@@ -576,35 +592,34 @@ impl Engine {
 
     /// A statement fails. It is completed where its error OB begins.
     #[tactic(auto, using(crate::proofs::Sound::turned_moves, crate::proofs::Sound::turned_halts))]
-    fn fail_statement(&mut self, error: u8, spot: BlockSpot) -> Option<Request>
+    fn fail_statement(&mut self, error: u8, spot: BlockSpot)
         requires sound { IsSound (config_of self.old) }
         requires stored { IsStored self.old }
+        requires ready { self.old.waits ≡ None }
         requires here { IsHigh (length (config_of self.old).frames) (At spot.block spot.at (level_in spot.level) Fresh) }
         requires code { IsCode self.old.program spot.code spot.block }
         requires before { self.old.since < 256 }
         requires within { spot.at + 1 < 2 ^ 64 }
-        ensures turned { Follows (fails self.old.program (At spot.block (spot.at + 1) (level_in spot.level) Fresh) (level_in spot.level) self.old.memory error) (config_of self.old) result (config_of self.new) }
+        ensures turned { Follows (fails self.old.program (At spot.block (spot.at + 1) (level_in spot.level) Fresh) (level_in spot.level) self.old.memory error) (config_of self.old) self.new.waits (config_of self.new) }
         ensures sound { IsSound (config_of self.new) }
         ensures stored { IsStored self.new }
     {
         match self.fail(error, spot) {
-            Some(request) => Some(request),
-            None => {
-                self.since += 1;
-                None
-            }
+            Some(request) => self.wait_at(request),
+            None => self.since += 1,
         }
     }
 
     /// A block is called. The statement is completed where it begins, or where it is not loaded and the error OB begins.
-    fn call(&mut self, callee: BlockRef, spot: BlockSpot) -> Option<Request>
+    fn call(&mut self, callee: BlockRef, spot: BlockSpot)
         requires sound { IsSound (config_of self.old) }
         requires stored { IsStored self.old }
+        requires ready { self.old.waits ≡ None }
         requires here { IsHigh (length (config_of self.old).frames) (At spot.block spot.at (level_in spot.level) Fresh) }
         requires code { IsCode self.old.program spot.code spot.block }
         requires before { self.old.since < 256 }
         requires within { spot.at + 1 < 2 ^ 64 }
-        ensures turned { Follows (calls self.old.program (At spot.block (spot.at + 1) (level_in spot.level) Fresh) (level_in spot.level) self.old.memory callee) (config_of self.old) result (config_of self.new) }
+        ensures turned { Follows (calls self.old.program (At spot.block (spot.at + 1) (level_in spot.level) Fresh) (level_in spot.level) self.old.memory callee) (config_of self.old) self.new.waits (config_of self.new) }
         ensures sound { IsSound (config_of self.new) }
         ensures stored { IsStored self.new }
     {
@@ -615,21 +630,22 @@ impl Engine {
             Ok(level) => self.begin_called(callee, level, spot),
             Err(code) => {
                 self.spot = Spot::AtStop(code);
-                Some(stop_request(code))
+                self.wait_at(stop_request(code));
             }
         }
     }
 
     /// A block that is called begins on its level.
-    fn begin_called(&mut self, callee: BlockRef, level: Level, spot: BlockSpot) -> Option<Request>
+    fn begin_called(&mut self, callee: BlockRef, level: Level, spot: BlockSpot)
         requires sound { IsSound (config_of self.old) }
         requires stored { IsStored self.old }
+        requires ready { self.old.waits ≡ None }
         requires here { IsHigh (length (config_of self.old).frames) (At spot.block spot.at (level_in spot.level) Fresh) }
         requires code { IsCode self.old.program spot.code spot.block }
         requires deeper { (spot.level.depth < 24) × (level.depth ≡ spot.level.depth + 1) }
         requires before { self.old.since < 256 }
         requires within { spot.at + 1 < 2 ^ 64 }
-        ensures turned { Follows (begun (At spot.block (spot.at + 1) (level_in spot.level) Fresh) self.old.memory callee (Ok (level_in level))) (config_of self.old) result (config_of self.new) }
+        ensures turned { Follows (begun (At spot.block (spot.at + 1) (level_in spot.level) Fresh) self.old.memory callee (Ok (level_in level))) (config_of self.old) self.new.waits (config_of self.new) }
         ensures sound { IsSound (config_of self.new) }
         ensures stored { IsStored self.new }
     {
@@ -642,7 +658,6 @@ impl Engine {
         self.memory.set_registers(call_registers(&registers));
         self.begin(callee, level, frame);
         self.since += 1;
-        None
     }
 
     /// A statement that asked is completed by its answer, and fails.
@@ -696,6 +711,7 @@ impl Engine {
         requires stored { IsStored self.old }
         requires some { 0 < length (config_of self.old).frames }
         ensures left { Follows Leaves (config_of self.old) None (config_of self.new) }
+        ensures waits { self.new.waits ≡ self.old.waits }
         ensures sound { IsSound (config_of self.new) }
         ensures stored { IsStored self.new }
     {

@@ -1,9 +1,5 @@
 -- A turn in a block is a turn of its place.
-use Rattle.std.proofs.Common.{◌≡◌, Some, sym, ◌∙◌}
-use Rattle.std.specs.Prelude.{slice_get}
-use Rattle.std.specs.Option.{option_map}
-use Rattle.statement_effects.specs.Reading.{instruction_of}
-use Rattle.mc_machine.specs.Meaning.{statements_of}
+use Rattle.std.proofs.Common.{Some, ap, sym, ◌∙◌}
 use Rattle.mc_machine.specs.EngineView.{level_in, config_of}
 use Rattle.mc_machine.proofs.Sound.{run_follows, run_leaves, run_ticks}
 use Rattle.mc_machine.proofs.Stored.{decoded_found}
@@ -14,11 +10,11 @@ returns-then-self-ge256-clause-turned c =
     let spot = c.args.spot in
     let engine = c.args.self.now in
     let found = decoded_found engine.program c.deref.result.now spot.code spot.at spot.block (c.deref.ensures.value ∙ c.requires.stored.decoded) c.requires.code in
-    run_ticks (config_of engine) spot.block spot.at (level_in spot.level) c.in-Some.statement.now c.block_request.result c.block_request.ensures c.requires.here (sym found ∙ sym c.in-Some.ensures.found) c.if-self-ge256.true
+    run_ticks (config_of engine) (config_of c.wait_at.new.self) spot.block spot.at (level_in spot.level) c.in-Some.statement.now c.wait_at.new.self.waits (c.wait_at.ensures.waits ∙ ap Some c.block_request.ensures) c.wait_at.ensures.same c.requires.here (sym found ∙ sym c.in-Some.ensures.found) c.if-self-ge256.true
 
 pub returns-clause-turned : goal.returns-clause-turned
 returns-clause-turned c =
     let spot = c.args.spot in
     let engine = c.args.self.now in
     let found = decoded_found engine.program c.deref.result.now spot.code spot.at spot.block (c.deref.ensures.value ∙ c.requires.stored.decoded) c.requires.code in
-    run_follows (config_of engine) (config_of c.follow.new.self) spot.block spot.at (level_in spot.level) c.in-Some.statement.now c.perform-flow.new.self c.perform-flow.result c.follow.result c.requires.here (sym found ∙ sym c.in-Some.ensures.found) c.if-self-ge256.false c.perform-flow.ensures.effect c.perform-flow.ensures.asks c.follow.ensures.turned
+    run_follows (config_of engine) (config_of c.follow.new.self) spot.block spot.at (level_in spot.level) c.in-Some.statement.now c.perform-flow.new.self c.perform-flow.result c.follow.new.self.waits c.requires.here (sym found ∙ sym c.in-Some.ensures.found) c.if-self-ge256.false c.perform-flow.ensures.effect c.perform-flow.ensures.asks c.follow.ensures.turned
