@@ -1,12 +1,14 @@
 -- A refusal of a file that was read after another.
-use Rattle.std.proofs.Common.{◌≡◌, zero, suc, subst, sym, arith}
-use Rattle.std.specs.Prelude.{IfSome}
+use Rattle.std.proofs.Common.{◌≡◌, ◌∙◌, ℕ, List, Option, subst, sym}
 use Rattle.pair_io.specs.Causes.{Rose}
+use Rattle.pair_io.specs.declared.files.FilesError.TheVariants as unread
 use Rattle.s7_base.specs.Blocks.{Program}
-use Rattle.pair_top.specs.declared.faults.Fault.{Fault}
-use Rattle.pair_top.specs.declared.faults.Fault.TheVariants.{Usage, FileFault, TooLong, SourceFault, ScriptFault, SinkFault, NoMemory, Differs}
-use Rattle.pair_top.specs.Reading.{File, IsAccepted, IsScriptRefusal, IsTooLong, IsNoScript, HasFailed}
-use Rattle.pair_top.specs.Serving.{IsRefusal}
+use Rattle.plant_script.specs.declared.script_error.ScriptFault as scripts
+use Rattle.pair_top.specs.declared.errors.FileError.{FileError}
+use Rattle.pair_top.specs.declared.errors.FileError.TheVariants as errors
+use Rattle.pair_top.specs.declared.errors.PlayError.TheVariants as refusals
+use Rattle.pair_top.specs.Reading.{File, IsAccepted, IsTooLong, IsNoScript, HasFailed, IsRefused, CountsOnly}
+use Rattle.pair_top.specs.Serving.{IsCause}
 
 -- a file, and the same as a second read found it: the first read, of another file, left its content and its promise
 module _ (file later : File) (content : later.content ≡ file.content) (before : later.before ≡ file.before) (now : later.now ≡ file.now)
@@ -16,20 +18,22 @@ module _ (file later : File) (content : later.content ≡ file.content) (before 
       let there = subst (λ n. Rose n later.now) before failed.0 in
       (subst (λ n. Rose file.before n) now there, λ promised. failed.1 (promise promised))
 
+  refused_later : {E : Type 0} (IsFault : Option (List ℕ) → E → Type 0) (error : FileError E) → IsRefused IsFault later error → IsRefused IsFault file error
+  refused_later IsFault (errors.Unread unread.Failed) r = has_failed r
+  refused_later IsFault (errors.Unread unread.TooLong) r = subst (λ o. IsTooLong o) content r
+  refused_later IsFault (errors.Unread unread.NoMemory) r = tt
+  refused_later IsFault (errors.Content fault) r = subst (λ o. IsFault o fault) content r
+  refused_later IsFault errors.NoMemory r = tt
+
   -- a script that was refused at the second read was refused after its source was accepted
   pub script_refused : (source : File) (program : Program) → IsAccepted source.content program
-      → (fault : Fault) → IsScriptRefusal later fault → IsRefusal source file fault
-  script_refused source program accepted (FileFault zero) r = let is : zero ≡ 1 = r.0 in absurd (omega arith)
-  script_refused source program accepted (FileFault (suc zero)) r = (program, accepted, has_failed r.1)
-  script_refused source program accepted (FileFault (suc (suc n))) r = let is : suc (suc n) ≡ 1 = r.0 in absurd (omega arith)
-  script_refused source program accepted (TooLong zero) r = let is : zero ≡ 1 = r.0 in absurd (omega arith)
-  script_refused source program accepted (TooLong (suc zero)) r =
-      (program, accepted, subst (λ o. IsTooLong o) content r.1)
-  script_refused source program accepted (TooLong (suc (suc n))) r = let is : suc (suc n) ≡ 1 = r.0 in absurd (omega arith)
-  script_refused source program accepted (ScriptFault fault) r =
-      (program, accepted, subst (λ o. IsNoScript o fault) content r)
-  script_refused source program accepted NoMemory r = tt
-  script_refused source program accepted Usage r = absurd r
-  script_refused source program accepted (SourceFault fault) r = absurd r
-  script_refused source program accepted SinkFault r = absurd r
-  script_refused source program accepted (Differs line) r = absurd r
+      → (error : FileError scripts.ScriptFault) → IsRefused IsNoScript later error → IsCause source file (refusals.Script error)
+  script_refused source program accepted error r = (program, accepted, refused_later IsNoScript error r)
+
+  -- what the second read counted was counted in all
+  pub counts_later : {E : Type 0} (error : FileError E) → CountsOnly error later → CountsOnly error file
+  counts_later (errors.Unread unread.Failed) r = tt
+  counts_later (errors.Unread unread.TooLong) r = sym now ∙ r ∙ before
+  counts_later (errors.Unread unread.NoMemory) r = sym now ∙ r ∙ before
+  counts_later (errors.Content fault) r = sym now ∙ r ∙ before
+  counts_later errors.NoMemory r = sym now ∙ r ∙ before

@@ -1,7 +1,10 @@
+pub mod Contents
 pub mod Due
 pub mod Later
+pub mod OneFile
 pub mod Patterns
 pub mod Pieces
 pub mod PlayedOut
 pub mod Plays
+pub mod Refusals
 pub mod Serves

@@ -7,7 +7,7 @@ use Rattle.s7_base.specs.Blocks.{Program}
 use Rattle.mc_machine.specs.Meaning.{State}
 use Rattle.mc_machine.specs.Stands.{Running, Shows, Stands, IsRunning, CanAsk, CpuWaits, CpuStopped}
 use Rattle.subsystem.specs.Part.{Part}
-use Rattle.pair_core.specs.declared.own.Own.{Own}
+use Rattle.pair_core.specs.OwnParts.{OwnPart}
 use Rattle.trace_text.specs.CpuTail.{tail_in, tail_of, tail_of_state}
 use Rattle.pair_core.specs.Places.{IsAt, AskedStands}
 use Rattle.pair_core.specs.Played.{answers_of}
@@ -35,10 +35,10 @@ alive_by : (alive : Bool) (machine : Option Running) → CanAsk machine → (ali
 alive_by true machine can idle = cc
 alive_by false machine can idle = absurd (subst CanAsk (idle cc) can)
 
-pub alive_asked : (program : Program) (own : Own) (es : List Entry) (s : Part) → CanAsk s.machine → IsAt program own es s → own.alive ≡ true
+pub alive_asked : (program : Program) (own : OwnPart) (es : List Entry) (s : Part) → CanAsk s.machine → IsAt program own es s → own.alive ≡ true
 alive_asked program own es s can at_own = alive_by own.alive s.machine can at_own.idle
 
-pub asked_brought : (program : Program) (own : Own) (es : List Entry) (old new : Part) (request : Request) → IsAt program own es old → CanAsk old.machine
+pub asked_brought : (program : Program) (own : OwnPart) (es : List Entry) (old new : Part) (request : Request) → IsAt program own es old → CanAsk old.machine
     → new.lives ≡ old.lives → CanAsk new.machine → ((given : List Answer) → Stands program given old.machine → Stands program given new.machine)
     → ((given : List Answer) → Stands program given old.machine → CpuWaits program given request new.machine)
     → AskedStands own es program old new → IsBrought program own es old new
@@ -50,7 +50,7 @@ asked_brought program own es old new request stood can lives going stands next l
   );
 }
 
-pub kept_brought : (program : Program) (own : Own) (es : List Entry) (old : Part) → IsAt program own es old
+pub kept_brought : (program : Program) (own : OwnPart) (es : List Entry) (old : Part) → IsAt program own es old
     → (IsRunning old.machine → (given : List Answer) → Stands program given old.machine → CpuStopped program given old.machine)
     → IsBrought program own es old old
 kept_brought program own es old stood stops = record {

@@ -1,10 +1,19 @@
 -- What a call that plays answers, from what its play answers.
-use Rattle.std.proofs.Common.{◌≡◌, Bool, Option, Some, None, subst, inl}
+use Rattle.std.proofs.Common.{◌≡◌, Bool, Option, Some, None, refl, subst, inl}
+use Rattle.pair_io.specs.Causes.{Rose}
+use Rattle.pair_io.specs.declared.files.FilesError.TheVariants as unread
+use Rattle.pair_top.specs.declared.errors.FileError.TheVariants as errors
+use Rattle.pair_top.specs.declared.errors.PlayError.{PlayError}
+use Rattle.pair_top.specs.declared.errors.PlayError.TheVariants as refusals
+use Rattle.pair_top.specs.Errors.{play_fault}
 use Rattle.s7_events.specs.declared.entry.Side.{Side}
 use Rattle.s7_base.specs.Blocks.{Program}
 use Rattle.pair_top.specs.declared.faults.Fault.{Fault}
 use Rattle.pair_top.specs.declared.faults.Fault.TheVariants.{Usage, FileFault, TooLong, SourceFault, ScriptFault, SinkFault, NoMemory, Differs}
 use Rattle.subsystem.specs.Part.{Part}
+use Rattle.stl_lex.specs.declared.fault.LoadFault.{LoadFault}
+use Rattle.plant_script.specs.declared.script_error.ScriptFault as scripts
+use Rattle.pair_top.proofs.Refusals.{file_told}
 use Rattle.plant_script.specs.Plan.{Plan}
 use Rattle.trace_text.specs.Tail.{Tail}
 use Rattle.trace_text.specs.CpuTail.{tail_of}
@@ -14,14 +23,14 @@ use Rattle.pair_core.specs.World.{World, first_world, play}
 use Rattle.pair_top.specs.Reading.{File}
 use Rattle.pair_top.specs.Orders.{Manner, is_alone, visits_for}
 use Rattle.pair_top.specs.Playing.{of_side}
-use Rattle.pair_top.specs.Serving.{Written, Account, AreNew, AreUnused, AreAccepted, IsQuiet, IsRefusal, IsFinished, IsPlay, setup_of, ComesToTail, IsTailOf, IsWriting, play_text, IsOutcome, PlayServed}
+use Rattle.pair_top.specs.Serving.{Written, Account, AreNew, AreUnused, AreAccepted, IsQuiet, IsCause, PlayCounts, AreSteady, IsDone, IsFinished, IsPlay, setup_of, ComesToTail, IsTailOf, IsWriting, play_text, IsOutcome, PlayServed}
 
 module _ (manner : Manner) (source script : File) (sink : Written) (account : Account) (a b : Part) (program : Program) (plan : Plan)
     (accepted : AreAccepted source.content script.content program plan) where
   pub served : (fault : Option Fault) → IsOutcome manner program plan sink account a b fault → PlayServed manner source script sink account a b fault
   served None o = (program, plan, accepted, o)
   served (Some SinkFault) o = (program, plan, accepted, o)
-  served (Some NoMemory) o = (tt, o.0, o.1)
+  served (Some NoMemory) o = (record { error = refusals.Source errors.NoMemory; told_as = refl; cause = tt }, o.0, o.1)
   served (Some Usage) o = absurd o
   served (Some (FileFault which)) o = absurd o
   served (Some (TooLong which)) o = absurd o
@@ -29,21 +38,53 @@ module _ (manner : Manner) (source script : File) (sink : Written) (account : Ac
   served (Some (ScriptFault fault)) o = absurd o
   served (Some (Differs line)) o = absurd o
 
+  -- and it was done to its end, but for want of memory, where the sink took all
+  pub done : (fault : Option Fault) → IsOutcome manner program plan sink account a b fault → (Rose sink.before sink.now → ⊥) → IsDone fault
+  done None o takes = tt
+  done (Some SinkFault) o takes = takes o.3.1.0
+  done (Some NoMemory) o takes = tt
+  done (Some Usage) o takes = o
+  done (Some (FileFault which)) o takes = o
+  done (Some (TooLong which)) o takes = o
+  done (Some (SourceFault fault)) o takes = o
+  done (Some (ScriptFault fault)) o takes = o
+  done (Some (Differs line)) o takes = o
+
 -- what is as it was made took no entry
 pub unused : (a b : Part) → AreNew a b → AreUnused a b
 unused a b new = record { first = inl new.first; second = inl new.second }
 
--- a refusal with which nothing was played and nothing written, and both subsystems are as they were made
-pub refused : (manner : Manner) (source script : File) (sink : Written) (account : Account) (a b : Part) (fault : Fault)
-    → IsRefusal source script fault → IsQuiet sink account → AreNew a b → PlayServed manner source script sink account a b (Some fault)
-refused manner source script sink account a b Usage r quiet new = absurd r
-refused manner source script sink account a b (FileFault which) r quiet new = (r, quiet, new)
-refused manner source script sink account a b (TooLong which) r quiet new = (r, quiet, new)
-refused manner source script sink account a b (SourceFault fault) r quiet new = (r, quiet, new)
-refused manner source script sink account a b (ScriptFault fault) r quiet new = (r, quiet, new)
-refused manner source script sink account a b SinkFault r quiet new = absurd r
-refused manner source script sink account a b NoMemory r quiet new = (r, quiet, unused a b new)
-refused manner source script sink account a b (Differs line) r quiet new = absurd r
+-- a refusal of the files with which nothing was played and nothing written, and both subsystems are as they were made
+pub refused : (manner : Manner) (source script : File) (sink : Written) (account : Account) (a b : Part) (error : PlayError)
+    → IsCause source script error → IsQuiet sink account → AreNew a b → PlayServed manner source script sink account a b (Some (play_fault error))
+refused manner source script sink account a b (refusals.Source (errors.Unread unread.Failed)) r quiet new = (record { error = refusals.Source (errors.Unread unread.Failed); told_as = refl; cause = r }, quiet, new)
+refused manner source script sink account a b (refusals.Source (errors.Unread unread.TooLong)) r quiet new = (record { error = refusals.Source (errors.Unread unread.TooLong); told_as = refl; cause = r }, quiet, new)
+refused manner source script sink account a b (refusals.Source (errors.Unread unread.NoMemory)) r quiet new = (record { error = refusals.Source (errors.Unread unread.NoMemory); told_as = refl; cause = r }, quiet, unused a b new)
+refused manner source script sink account a b (refusals.Source (errors.Content fault)) r quiet new = (record { error = refusals.Source (errors.Content fault); told_as = refl; cause = r }, quiet, new)
+refused manner source script sink account a b (refusals.Source errors.NoMemory) r quiet new = (record { error = refusals.Source errors.NoMemory; told_as = refl; cause = r }, quiet, unused a b new)
+refused manner source script sink account a b (refusals.Script (errors.Unread unread.Failed)) r quiet new = (record { error = refusals.Script (errors.Unread unread.Failed); told_as = refl; cause = r }, quiet, new)
+refused manner source script sink account a b (refusals.Script (errors.Unread unread.TooLong)) r quiet new = (record { error = refusals.Script (errors.Unread unread.TooLong); told_as = refl; cause = r }, quiet, new)
+refused manner source script sink account a b (refusals.Script (errors.Unread unread.NoMemory)) r quiet new = (record { error = refusals.Script (errors.Unread unread.NoMemory); told_as = refl; cause = r }, quiet, unused a b new)
+refused manner source script sink account a b (refusals.Script (errors.Content fault)) r quiet new = (record { error = refusals.Script (errors.Content fault); told_as = refl; cause = r }, quiet, new)
+refused manner source script sink account a b (refusals.Script errors.NoMemory) r quiet new = (record { error = refusals.Script errors.NoMemory; told_as = refl; cause = r }, quiet, unused a b new)
+
+-- it is none of the arguments
+pub refused_is_none : (error : PlayError) → play_fault error ≡ Usage → ⊥
+refused_is_none (refusals.Source error) h = file_told LoadFault 0 (λ fault. SourceFault fault) (λ fault is. cc) error h
+refused_is_none (refusals.Script error) h = file_told scripts.ScriptFault 1 (λ fault. ScriptFault fault) (λ fault is. cc) error h
+
+-- it counted faults of the files only where one failed
+pub refused_steady : (source script : File) (error : PlayError) → PlayCounts error source → PlayCounts error script → AreSteady (Some (play_fault error)) source script
+refused_steady source script (refusals.Source (errors.Unread unread.Failed)) first second = tt
+refused_steady source script (refusals.Source (errors.Unread unread.TooLong)) first second = (first, second)
+refused_steady source script (refusals.Source (errors.Unread unread.NoMemory)) first second = (first, second)
+refused_steady source script (refusals.Source (errors.Content fault)) first second = (first, second)
+refused_steady source script (refusals.Source errors.NoMemory) first second = (first, second)
+refused_steady source script (refusals.Script (errors.Unread unread.Failed)) first second = tt
+refused_steady source script (refusals.Script (errors.Unread unread.TooLong)) first second = (first, second)
+refused_steady source script (refusals.Script (errors.Unread unread.NoMemory)) first second = (first, second)
+refused_steady source script (refusals.Script (errors.Content fault)) first second = (first, second)
+refused_steady source script (refusals.Script errors.NoMemory) first second = (first, second)
 
 -- a play whose text was written, or a front of it
 pub outcome : (manner : Manner) (program : Program) (plan : Plan) (sink : Written) (account : Account) (a b : Part) (tail : Tail) (fault : Option Fault)

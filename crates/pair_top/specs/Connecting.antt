@@ -6,8 +6,9 @@ use Rattle.ft_connection.specs.declared.conn_error.ConnError.TheVariants as conn
 use Rattle.ft_connection.specs.declared.player.Played.{Played}
 use Rattle.ft_connection.specs.Outcome.{outcome}
 use Rattle.pair_top.specs.declared.faults.Fault.{Fault}
-use Rattle.pair_top.specs.declared.faults.Fault.TheVariants.{Usage, FileFault, TooLong, SourceFault, ScriptFault, SinkFault, NoMemory, Differs}
-use Rattle.pair_top.specs.Reading.{File, HasFailed, WasRead, IsTooLong}
+use Rattle.pair_top.specs.declared.faults.Fault.TheVariants.{TooLong, ScriptFault, SinkFault}
+use Rattle.pair_top.specs.Errors.{script_fault}
+use Rattle.pair_top.specs.Reading.{File, HasFailed, WasRead, IsRefusalOf}
 use Rattle.pair_top.specs.Serving.{Written, Account, IsQuiet, IsUnplayed, IsWriting, IsDue, IsDone, Tells, TellsTooMuch}
 
 -- a file was read whole, and playing its events gives this
@@ -24,14 +25,7 @@ pub record HasBadEvents (content : Option (List ℕ)) (fault : scripts.ScriptFau
 
 -- why events were not played
 abbrev pub IsConnectRefusal : File → Fault → Type 0
-IsConnectRefusal file (FileFault which) = (which ≡ 1) × HasFailed file
-IsConnectRefusal file (TooLong which) = (which ≡ 1) × IsTooLong file.content
-IsConnectRefusal file (ScriptFault fault) = HasBadEvents file.content fault
-IsConnectRefusal file NoMemory = Unit {0}
-IsConnectRefusal file Usage = ⊥
-IsConnectRefusal file (SourceFault fault) = ⊥
-IsConnectRefusal file SinkFault = ⊥
-IsConnectRefusal file (Differs line) = ⊥
+IsConnectRefusal file fault = IsRefusalOf script_fault HasBadEvents file fault
 
 -- a file of events was read whole, no record was made, and the text of the connection was written
 abbrev pub IsShown : File → Written → Account → Option Fault → Type 0

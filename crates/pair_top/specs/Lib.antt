@@ -1,4 +1,5 @@
 pub mod Connecting
+pub mod Errors
 pub mod FaultText
 pub mod Fields
 pub mod Loading

@@ -8,7 +8,7 @@ use Rattle.s7_events.specs.declared.entry.Entry.{Entry}
 use Rattle.s7_base.specs.Blocks.{Program}
 use Rattle.mc_machine.specs.Meaning.{State, Waits, Stopped, std}
 use Rattle.subsystem.specs.Part.{Part, IsOpen}
-use Rattle.pair_core.specs.declared.own.Own.{Own}
+use Rattle.pair_core.specs.OwnParts.{OwnPart}
 use Rattle.pair_core.specs.Played.{answers_of}
 use Rattle.trace_text.specs.CpuTail.{tail_of, tail_of_state}
 use Rattle.trace_text.specs.Tail.{Tail}
@@ -27,7 +27,7 @@ abbrev pub Plays : Setup → World → List Side → Bool → World → Type 0
 Plays p w visits over new = (more : List Side) → play p w (visits ++ more) ≡ (if over then new else play p new more)
 
 -- What asking made of a side: it stands where it stood, and where it had taken all entries it shows the CPU at its end.
-pub record IsBrought (program : Program) (own : Own) (es : List Entry) (old new : Part) : Type 0 where
+pub record IsBrought (program : Program) (own : OwnPart) (es : List Entry) (old new : Part) : Type 0 where
   pub stays : IsAt program own es new
   pub last : StandsAfter program es old.machine → ComesTo program (answers_of es) (tail_of new.machine) × IsOpen new
 

@@ -1,11 +1,15 @@
 -- What it means that a file was read, and accepted or refused.
 use Rattle.std.specs.Prelude.{◌≡◌, ℕ, ◌<◌, ◌≤◌, List, length, Option, Some, None, IfSome, Result, Ok, Err}
 use Rattle.pair_io.specs.Causes.{Rose}
+use Rattle.pair_io.specs.declared.files.FilesError.{FilesError}
+use Rattle.pair_io.specs.declared.files.FilesError.TheVariants as unread
 use Rattle.s7_base.specs.Blocks.{Program, IsPlayable}
 use Rattle.stl_lex.specs.declared.fault.LoadFault.{LoadFault}
 use Rattle.block_loader.specs.Load.{meaning_of}
 use Rattle.pair_top.specs.declared.faults.Fault.{Fault}
-use Rattle.pair_top.specs.declared.faults.Fault.TheVariants.{Usage, FileFault, TooLong, SourceFault, ScriptFault, SinkFault, NoMemory, Differs}
+use Rattle.pair_top.specs.declared.errors.FileError.{FileError}
+use Rattle.pair_top.specs.declared.errors.FileError.TheVariants as errors
+use Rattle.pair_top.specs.Errors.{source_fault}
 use Rattle.plant_script.specs.declared.script_error.ScriptFault as scripts
 use Rattle.plant_script.specs.Plan.{Plan, first_alarm_or_job}
 use Rattle.plant_script.specs.SecondPass.{script_of}
@@ -101,51 +105,36 @@ pub record IsNoScript (content : Option (List ℕ)) (fault : scripts.ScriptFault
   pub read : WasRead content bytes
   pub cause : played_script (script_of bytes) ≡ Err fault
 
--- why a file was not read; `which` is its number
-abbrev pub IsReadRefusal : ℕ → File → Fault → Type 0
-IsReadRefusal which file (FileFault w) = (w ≡ which) × HasFailed file
-IsReadRefusal which file (TooLong w) = (w ≡ which) × IsTooLong file.content
-IsReadRefusal which file NoMemory = Unit {0}
-IsReadRefusal which file Usage = ⊥
-IsReadRefusal which file (SourceFault fault) = ⊥
-IsReadRefusal which file (ScriptFault fault) = ⊥
-IsReadRefusal which file SinkFault = ⊥
-IsReadRefusal which file (Differs line) = ⊥
+-- why a file was not read
+abbrev pub IsUnread : File → FilesError → Type 0
+IsUnread file unread.Failed = HasFailed file
+IsUnread file unread.TooLong = IsTooLong file.content
+IsUnread file unread.NoMemory = Unit {0}
+
+-- why a file was refused, by what it means that a content has a fault
+abbrev pub IsRefused : {E : Type 0} → (Option (List ℕ) → E → Type 0) → File → FileError E → Type 0
+IsRefused IsFault file (errors.Unread error) = IsUnread file error
+IsRefused IsFault file (errors.Content fault) = IsFault file.content fault
+IsRefused IsFault file errors.NoMemory = Unit {0}
+
+-- this fault tells why a file was refused
+pub record IsRefusalOf {E : Type 0} (told : FileError E → Fault) (IsFault : Option (List ℕ) → E → Type 0) (file : File) (fault : Fault) : Type 0 where
+  pub error : FileError E
+  pub told_as : fault ≡ told error
+  pub cause : IsRefused IsFault file error
 
 -- why a source was not loaded
 abbrev pub IsLoadRefusal : File → Fault → Type 0
-IsLoadRefusal file (FileFault which) = (which ≡ 0) × HasFailed file
-IsLoadRefusal file (TooLong which) = (which ≡ 0) × IsTooLong file.content
-IsLoadRefusal file (SourceFault fault) = IsFaulty file.content fault
-IsLoadRefusal file NoMemory = Unit {0}
-IsLoadRefusal file Usage = ⊥
-IsLoadRefusal file (ScriptFault fault) = ⊥
-IsLoadRefusal file SinkFault = ⊥
-IsLoadRefusal file (Differs line) = ⊥
+IsLoadRefusal file fault = IsRefusalOf source_fault IsFaulty file fault
 
--- why a source was refused for a play
-abbrev pub IsSourceRefusal : File → Fault → Type 0
-IsSourceRefusal file (FileFault which) = (which ≡ 0) × HasFailed file
-IsSourceRefusal file (TooLong which) = (which ≡ 0) × IsTooLong file.content
-IsSourceRefusal file (SourceFault fault) = IsNoSource file.content fault
-IsSourceRefusal file NoMemory = Unit {0}
-IsSourceRefusal file Usage = ⊥
-IsSourceRefusal file (ScriptFault fault) = ⊥
-IsSourceRefusal file SinkFault = ⊥
-IsSourceRefusal file (Differs line) = ⊥
+-- a file that was not read counted a fault only where it failed
+abbrev pub UnreadCounts : FilesError → File → Type 0
+UnreadCounts unread.Failed file = Unit {0}
+UnreadCounts unread.TooLong file = IsSteady file
+UnreadCounts unread.NoMemory file = IsSteady file
 
--- why a script was refused
-abbrev pub IsScriptRefusal : File → Fault → Type 0
-IsScriptRefusal file (FileFault which) = (which ≡ 1) × HasFailed file
-IsScriptRefusal file (TooLong which) = (which ≡ 1) × IsTooLong file.content
-IsScriptRefusal file (ScriptFault fault) = IsNoScript file.content fault
-IsScriptRefusal file NoMemory = Unit {0}
-IsScriptRefusal file Usage = ⊥
-IsScriptRefusal file (SourceFault fault) = ⊥
-IsScriptRefusal file SinkFault = ⊥
-IsScriptRefusal file (Differs line) = ⊥
-
--- a file whose fault is not told counted none
-abbrev pub CountsOnly : Fault → File → Type 0
-CountsOnly (FileFault which) file = Unit {0}
-CountsOnly fault file = IsSteady file
+-- and so did a file that was refused
+abbrev pub CountsOnly : {E : Type 0} → FileError E → File → Type 0
+CountsOnly (errors.Unread error) file = UnreadCounts error file
+CountsOnly (errors.Content fault) file = IsSteady file
+CountsOnly errors.NoMemory file = IsSteady file

@@ -1,5 +1,5 @@
 -- What a call of the program answers and leaves.
-use Rattle.std.specs.Prelude.{◌≡◌, ℕ, zero, suc, ◌+◌, ◌≤◌, ◌<◌, ◌⊎◌, Bool, List, [], ◌∷◌, length, Option, Some, None, Ok, Err}
+use Rattle.std.specs.Prelude.{◌≡◌, ℕ, ◌+◌, ◌≤◌, ◌<◌, ◌⊎◌, Bool, List, [], ◌∷◌, length, Option, Some, None, Ok, Err}
 use Rattle.std.specs.Io.KnownBytes.{Appends}
 use Rattle.pair_io.specs.Bytes.{AppendsFront}
 use Rattle.pair_io.specs.Causes.{Rose}
@@ -10,14 +10,17 @@ use Rattle.s7_base.specs.Blocks.{Program, IsPlayable}
 use Rattle.pair_core.specs.declared.endings.Ended.{Ended}
 use Rattle.pair_core.specs.declared.endings.Ended.TheVariants.{NotPlayed}
 use Rattle.pair_top.specs.declared.faults.Fault.{Fault}
-use Rattle.pair_top.specs.declared.faults.Fault.TheVariants.{Usage, FileFault, TooLong, SourceFault, ScriptFault, SinkFault, NoMemory, Differs}
+use Rattle.pair_top.specs.declared.faults.Fault.TheVariants.{FileFault, TooLong, SourceFault, ScriptFault, SinkFault, NoMemory}
+use Rattle.pair_top.specs.declared.errors.PlayError.{PlayError}
+use Rattle.pair_top.specs.declared.errors.PlayError.TheVariants as refusals
+use Rattle.pair_top.specs.Errors.{play_fault}
 use Rattle.plant_script.specs.Plan.{Plan}
 use Rattle.subsystem.specs.Part.{Part, IsNew, IsOpen, first_life}
 use Rattle.pair_core.specs.Played.{IsRun, IsSideOf, answers_of}
 use Rattle.pair_core.specs.Setup.{Setup}
 use Rattle.pair_core.specs.World.{World, first_world, play}
 use Rattle.pair_core.specs.Finished.{ended_by}
-use Rattle.pair_top.specs.Reading.{limit, File, IsSteady, HasFailed, IsTooLong, IsAccepted, IsPlanned, IsNoSource, IsNoScript, IsNotPlayed, played_script}
+use Rattle.pair_top.specs.Reading.{limit, File, IsSteady, HasFailed, IsRefused, CountsOnly, IsAccepted, IsPlanned, IsNoSource, IsNoScript, IsNotPlayed, played_script}
 use Rattle.stl_lex.specs.declared.fault.LoadFault.{LoadFault}
 use Rattle.block_loader.specs.Load.{meaning_of}
 use Rattle.plant_script.specs.declared.script_error.ScriptFault as scripts
@@ -120,28 +123,23 @@ pub record AreUnused (a b : Part) : Type 0 where
 -- took no entry
 abbrev pub AreLeft : Fault → Part → Part → Type 0
 AreLeft NoMemory a b = AreUnused a b
-AreLeft Usage a b = AreNew a b
-AreLeft (FileFault which) a b = AreNew a b
-AreLeft (TooLong which) a b = AreNew a b
-AreLeft (SourceFault fault) a b = AreNew a b
-AreLeft (ScriptFault fault) a b = AreNew a b
-AreLeft SinkFault a b = AreNew a b
-AreLeft (Differs line) a b = AreNew a b
+AreLeft fault a b = AreNew a b
 
--- why a play was refused, and that the files before the refused one were read whole and accepted
-abbrev pub IsRefusal : File → File → Fault → Type 0
-IsRefusal source script (FileFault zero) = HasFailed source
-IsRefusal source script (FileFault (suc zero)) = (program : Program) × IsAccepted source.content program × HasFailed script
-IsRefusal source script (FileFault (suc (suc n))) = ⊥
-IsRefusal source script (TooLong zero) = IsTooLong source.content
-IsRefusal source script (TooLong (suc zero)) = (program : Program) × IsAccepted source.content program × IsTooLong script.content
-IsRefusal source script (TooLong (suc (suc n))) = ⊥
-IsRefusal source script (SourceFault fault) = IsNoSource source.content fault
-IsRefusal source script (ScriptFault fault) = (program : Program) × IsAccepted source.content program × IsNoScript script.content fault
-IsRefusal source script NoMemory = Unit {0}
-IsRefusal source script Usage = ⊥
-IsRefusal source script SinkFault = ⊥
-IsRefusal source script (Differs line) = ⊥
+-- why the files of a play were refused, and that the files before the refused one were read whole and accepted
+abbrev pub IsCause : File → File → PlayError → Type 0
+IsCause source script (refusals.Source error) = IsRefused IsNoSource source error
+IsCause source script (refusals.Script error) = (program : Program) × IsAccepted source.content program × IsRefused IsNoScript script error
+
+-- this fault tells why a play was refused
+pub record IsRefusal (source script : File) (fault : Fault) : Type 0 where
+  pub error : PlayError
+  pub told_as : fault ≡ play_fault error
+  pub cause : IsCause source script error
+
+-- a file counted a fault only where one failed
+abbrev pub PlayCounts : PlayError → File → Type 0
+PlayCounts (refusals.Source error) file = CountsOnly error file
+PlayCounts (refusals.Script error) file = CountsOnly error file
 
 -- the counts of the files are as before, but where a file failed
 abbrev pub AreSteady : Option Fault → File → File → Type 0
@@ -169,12 +167,7 @@ abbrev pub IsOutcome : Manner → Program → Plan → Written → Account → P
 IsOutcome manner program plan sink account a b None = IsPlayed manner program plan sink account a b None
 IsOutcome manner program plan sink account a b (Some SinkFault) = IsPlayed manner program plan sink account a b (Some SinkFault)
 IsOutcome manner program plan sink account a b (Some NoMemory) = IsQuiet sink account × AreUnused a b
-IsOutcome manner program plan sink account a b (Some Usage) = ⊥
-IsOutcome manner program plan sink account a b (Some (FileFault which)) = ⊥
-IsOutcome manner program plan sink account a b (Some (TooLong which)) = ⊥
-IsOutcome manner program plan sink account a b (Some (SourceFault fault)) = ⊥
-IsOutcome manner program plan sink account a b (Some (ScriptFault fault)) = ⊥
-IsOutcome manner program plan sink account a b (Some (Differs line)) = ⊥
+IsOutcome manner program plan sink account a b (Some fault) = ⊥
 
 -- both files were read whole and accepted, and this is a play of them
 abbrev pub IsPlayOf : Manner → File → File → Written → Account → Part → Part → Option Fault → Type 0

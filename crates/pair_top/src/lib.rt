@@ -1,6 +1,7 @@
 //! The top call: all that the program does, from the command's words to the bytes in the sink.
 #![tactic(auto)]
 
+mod errors;
 mod fault_text;
 mod faults;
 mod gates;

@@ -3,7 +3,7 @@ ghost use Rattle.std.specs.Prelude.{◌≡◌, ◌≤◌, ◌+◌, ◌*◌, ◌�
 ghost use Rattle.s7_events.specs.declared.entry.Side.{Side};
 ghost use Rattle.s7_events.specs.declared.entry.Entry.{Entry};
 ghost use Rattle.s7_base.specs.Blocks.{Program};
-ghost use Rattle.pair_core.specs.declared.own.Own.{Own};
+ghost use Rattle.pair_core.specs.OwnParts.{OwnPart};
 ghost use Rattle.pair_core.specs.World.{ended, play};
 ghost use Rattle.pair_core.specs.Finished.{MayEnd};
 ghost use Rattle.pair_core.specs.Places.{IsAt};
@@ -183,7 +183,7 @@ pub fn play_visits(
 
 /// Asks a side once more, where its CPU has not stopped, so that it shows the state at its next request.
 fn bring(side: &mut Subsystem)
-    ensures { (program : Program) (own : Own) (es : List Entry) → IsAt program own es side.old → IsBrought program own es side.old side.new }
+    ensures { (program : Program) (own : OwnPart) (es : List Entry) → IsAt program own es side.old → IsBrought program own es side.old side.new }
 {
     asking_stays();
     if side.can_ask() {

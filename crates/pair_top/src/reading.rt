@@ -2,10 +2,10 @@
 ghost use Rattle.plant_script.specs.Plan.{first_alarm_or_job};
 ghost use Rattle.std.specs.Prelude.{◌≡◌, ℕ, List, None, IfOk, IfErr, OnOk};
 ghost use Rattle.s7_base.specs.Blocks.{IsPlayable};
-ghost use Rattle.pair_top.specs.Reading.{file_in, WasRead, IsLoaded, IsAccepted, IsPlanned, IsReadRefusal, IsLoadRefusal, IsSourceRefusal, IsScriptRefusal, CountsOnly};
-ghost use Rattle.pair_top.specs.Connecting.{IsConnected, IsConnectRefusal};
+ghost use Rattle.pair_top.specs.Reading.{file_in, WasRead, IsLoaded, IsFaulty, IsAccepted, IsPlanned, IsNoSource, IsNoScript, IsUnread, IsRefused, UnreadCounts, CountsOnly};
+ghost use Rattle.pair_top.specs.Connecting.{IsConnected, HasBadEvents};
 
-use crate::Fault;
+use crate::errors::FileError;
 use block_loader::{LoadError, load};
 use ft_connection::{ConnError, play};
 use pair_io::{Files, FilesError};
@@ -20,59 +20,58 @@ pub const LIMIT: u64 = 1_048_576;
 /// The kind of the fault of a source without faults whose program is not played.
 const NOT_BUILT: u8 = 99;
 
-/// The bytes of a file, which has this number.
-fn read_file<F: Files>(
+/// Returns the bytes of the file of this name.
+fn read_file<F: Files>(alloc: Global, files: &mut F, name: &[u8]) -> Result<Vec<u8>, FilesError>
+    ensures read { IfOk result (λ bytes. WasRead (F.content files.old name.now) bytes.items) }
+    ensures refused { IfErr result (IsUnread (file_in F.content F.faults F.never_fails files.old files.new name.now)) }
+    ensures stays { (other : List ℕ) → F.content files.new other ≡ F.content files.old other }
+    ensures promises { (other : List ℕ) → F.never_fails files.old other → F.never_fails files.new other }
+    ensures counts { OnOk result ((other : List ℕ) → F.faults files.new other ≡ F.faults files.old other) }
+    ensures steady { IfErr result (λ error. (other : List ℕ) → UnreadCounts error (file_in F.content F.faults F.never_fails files.old files.new other)) }
+{
+    let mut bytes = Vec::new(alloc);
+    files.read(name, LIMIT, &mut bytes)?;
+    Ok(bytes)
+}
+
+/// Returns the blocks of the source of this name.
+pub fn load_source<F: Files>(
     alloc: Global,
     files: &mut F,
     name: &[u8],
-    which: u8,
-) -> Result<Vec<u8>, Fault>
-    ensures read { IfOk result (λ bytes. WasRead (F.content files.old name.now) bytes.items) }
-    ensures refused { IfErr result (IsReadRefusal which (file_in F.content F.faults F.never_fails files.old files.new name.now)) }
-    ensures stays { (other : List ℕ) → F.content files.new other ≡ F.content files.old other }
-    ensures promises { (other : List ℕ) → F.never_fails files.old other → F.never_fails files.new other }
-    ensures counts { OnOk result ((other : List ℕ) → F.faults files.new other ≡ F.faults files.old other) }
-    ensures steady { IfErr result (λ fault. (other : List ℕ) → CountsOnly fault (file_in F.content F.faults F.never_fails files.old files.new other)) }
-{
-    let mut bytes = Vec::new(alloc);
-    match files.read(name, LIMIT, &mut bytes) {
-        Ok(()) => Ok(bytes),
-        Err(FilesError::Failed) => Err(Fault::FileFault { which }),
-        Err(FilesError::TooLong) => Err(Fault::TooLong { which }),
-        Err(FilesError::NoMemory) => Err(Fault::NoMemory),
-    }
-}
-
-/// The blocks of the source of this name.
-pub fn load_source<F: Files>(alloc: Global, files: &mut F, name: &[u8]) -> Result<Blocks, Fault>
+) -> Result<Blocks, FileError<LoadFault>>
     ensures loaded { IfOk result (IsLoaded (F.content files.old name.now)) }
-    ensures refused { IfErr result (IsLoadRefusal (file_in F.content F.faults F.never_fails files.old files.new name.now)) }
+    ensures refused { IfErr result (IsRefused IsFaulty (file_in F.content F.faults F.never_fails files.old files.new name.now)) }
     ensures stays { (other : List ℕ) → F.content files.new other ≡ F.content files.old other }
     ensures promises { (other : List ℕ) → F.never_fails files.old other → F.never_fails files.new other }
     ensures counts { OnOk result ((other : List ℕ) → F.faults files.new other ≡ F.faults files.old other) }
-    ensures steady { IfErr result (λ fault. (other : List ℕ) → CountsOnly fault (file_in F.content F.faults F.never_fails files.old files.new other)) }
+    ensures steady { IfErr result (λ error. (other : List ℕ) → CountsOnly error (file_in F.content F.faults F.never_fails files.old files.new other)) }
 {
-    let bytes = read_file(alloc, files, name, 0)?;
+    let bytes = read_file(alloc, files, name).map_err(FileError::Unread)?;
     match load(alloc, &bytes) {
         Ok(blocks) => Ok(blocks),
-        Err(LoadError::Fault(fault)) => Err(Fault::SourceFault(fault)),
-        Err(LoadError::NoMemory) => Err(Fault::NoMemory),
+        Err(LoadError::Fault(fault)) => Err(FileError::Content(fault)),
+        Err(LoadError::NoMemory) => Err(FileError::NoMemory),
     }
 }
 
-/// The blocks of the source of this name, which are played.
-pub fn read_blocks<F: Files>(alloc: Global, files: &mut F, name: &[u8]) -> Result<Blocks, Fault>
+/// Returns the blocks of the source of this name, which are played.
+pub fn read_blocks<F: Files>(
+    alloc: Global,
+    files: &mut F,
+    name: &[u8],
+) -> Result<Blocks, FileError<LoadFault>>
     ensures read { IfOk result (IsAccepted (F.content files.old name.now)) }
     ensures playable { IfOk result IsPlayable }
-    ensures refused { IfErr result (IsSourceRefusal (file_in F.content F.faults F.never_fails files.old files.new name.now)) }
+    ensures refused { IfErr result (IsRefused IsNoSource (file_in F.content F.faults F.never_fails files.old files.new name.now)) }
     ensures stays { (other : List ℕ) → F.content files.new other ≡ F.content files.old other }
     ensures promises { (other : List ℕ) → F.never_fails files.old other → F.never_fails files.new other }
     ensures counts { OnOk result ((other : List ℕ) → F.faults files.new other ≡ F.faults files.old other) }
-    ensures steady { IfErr result (λ fault. (other : List ℕ) → CountsOnly fault (file_in F.content F.faults F.never_fails files.old files.new other)) }
+    ensures steady { IfErr result (λ error. (other : List ℕ) → CountsOnly error (file_in F.content F.faults F.never_fails files.old files.new other)) }
 {
     let blocks = load_source(alloc, files, name)?;
     if !blocks.is_playable() {
-        return Err(Fault::SourceFault(LoadFault {
+        return Err(FileError::Content(LoadFault {
             kind: NOT_BUILT,
             line: 0,
         }));
@@ -80,46 +79,50 @@ pub fn read_blocks<F: Files>(alloc: Global, files: &mut F, name: &[u8]) -> Resul
     Ok(blocks)
 }
 
-/// The plant script of this name, which has no alarm and no job.
-pub fn read_plant<F: Files>(alloc: Global, files: &mut F, name: &[u8]) -> Result<Script, Fault>
+/// Returns the plant script of this name, which has no alarm and no job.
+pub fn read_plant<F: Files>(
+    alloc: Global,
+    files: &mut F,
+    name: &[u8],
+) -> Result<Script, FileError<ScriptFault>>
     ensures read { IfOk result (IsPlanned (F.content files.old name.now)) }
     ensures plain { IfOk result (λ script. first_alarm_or_job script ≡ None) }
-    ensures refused { IfErr result (IsScriptRefusal (file_in F.content F.faults F.never_fails files.old files.new name.now)) }
+    ensures refused { IfErr result (IsRefused IsNoScript (file_in F.content F.faults F.never_fails files.old files.new name.now)) }
     ensures stays { (other : List ℕ) → F.content files.new other ≡ F.content files.old other }
     ensures promises { (other : List ℕ) → F.never_fails files.old other → F.never_fails files.new other }
     ensures counts { OnOk result ((other : List ℕ) → F.faults files.new other ≡ F.faults files.old other) }
-    ensures steady { IfErr result (λ fault. (other : List ℕ) → CountsOnly fault (file_in F.content F.faults F.never_fails files.old files.new other)) }
+    ensures steady { IfErr result (λ error. (other : List ℕ) → CountsOnly error (file_in F.content F.faults F.never_fails files.old files.new other)) }
 {
-    let bytes = read_file(alloc, files, name, 1)?;
+    let bytes = read_file(alloc, files, name).map_err(FileError::Unread)?;
     let script = match read_script(alloc, &bytes) {
         Ok(script) => script,
-        Err(ScriptError::Fault(fault)) => return Err(Fault::ScriptFault(fault)),
-        Err(ScriptError::NoMemory) => return Err(Fault::NoMemory),
+        Err(ScriptError::Fault(fault)) => return Err(FileError::Content(fault)),
+        Err(ScriptError::NoMemory) => return Err(FileError::NoMemory),
     };
     if let Some(line) = script.first_alarm_or_job() {
         let kind = NOT_BUILT;
-        return Err(Fault::ScriptFault(ScriptFault { kind, line }));
+        return Err(FileError::Content(ScriptFault { kind, line }));
     }
     Ok(script)
 }
 
-/// What playing the events of the file of this name gives.
+/// Returns what playing the events of the file of this name gives.
 pub fn play_connection<F: Files>(
     alloc: Global,
     files: &mut F,
     name: &[u8],
-) -> Result<ft_connection::Played, Fault>
+) -> Result<ft_connection::Played, FileError<ScriptFault>>
     ensures played { IfOk result (IsConnected (F.content files.old name.now)) }
-    ensures refused { IfErr result (IsConnectRefusal (file_in F.content F.faults F.never_fails files.old files.new name.now)) }
+    ensures refused { IfErr result (IsRefused HasBadEvents (file_in F.content F.faults F.never_fails files.old files.new name.now)) }
     ensures stays { (other : List ℕ) → F.content files.new other ≡ F.content files.old other }
     ensures promises { (other : List ℕ) → F.never_fails files.old other → F.never_fails files.new other }
     ensures counts { OnOk result ((other : List ℕ) → F.faults files.new other ≡ F.faults files.old other) }
-    ensures steady { IfErr result (λ fault. (other : List ℕ) → CountsOnly fault (file_in F.content F.faults F.never_fails files.old files.new other)) }
+    ensures steady { IfErr result (λ error. (other : List ℕ) → CountsOnly error (file_in F.content F.faults F.never_fails files.old files.new other)) }
 {
-    let bytes = read_file(alloc, files, name, 1)?;
+    let bytes = read_file(alloc, files, name).map_err(FileError::Unread)?;
     match play(alloc, &bytes) {
         Ok(played) => Ok(played),
-        Err(ConnError::Fault { kind, line }) => Err(Fault::ScriptFault(ScriptFault { kind, line })),
-        Err(ConnError::NoMemory) => Err(Fault::NoMemory),
+        Err(ConnError::Fault { kind, line }) => Err(FileError::Content(ScriptFault { kind, line })),
+        Err(ConnError::NoMemory) => Err(FileError::NoMemory),
     }
 }

@@ -13,13 +13,14 @@ ghost use Rattle.trace_printer.specs.LoadText.{load_text};
 ghost use Rattle.pair_top.specs.Reading.{file_in, IsAccepted, IsPlanned};
 ghost use Rattle.pair_top.specs.Orders.{is_alone, visits_for};
 ghost use Rattle.pair_top.specs.Playing.{AreAt, of_side};
-ghost use Rattle.pair_top.specs.Serving.{AreNew, AreUnused, IsRefusal, AreSteady, IsFinished, ComesToTail, IsWriting, IsOutcome, PlayServed, IsUnplayed, setup_of, account_of, sink_in, GivesWhatIsDue};
+ghost use Rattle.pair_top.specs.Serving.{AreUnused, IsCause, PlayCounts, AreSteady, IsFinished, ComesToTail, IsWriting, IsOutcome, PlayServed, IsUnplayed, setup_of, account_of, sink_in, GivesWhatIsDue};
 ghost use Rattle.pair_top.specs.Loading.{LoadServed, IsSteadyUnless, LoadsWhatIsDue, Served, DueServed};
 ghost use Rattle.pair_top.specs.Connecting.{ConnectServed, ConnectsWhatIsDue};
 ghost use Rattle.pair_top.specs.Statuses.{status_of};
 ghost use Rattle.pair_top.specs.Words.{command_of, words_of};
 ghost use Rattle.pair_top.specs.WordsView.{order_of, manner_in, IsReadable, ArePatterns};
 
+use crate::errors::{PlayError, play_fault, script_fault, source_fault};
 use crate::fault_text::exit_status;
 use crate::play::{Played, Visits, finish, play_visits};
 use crate::reading::{load_source, play_connection, read_blocks, read_plant};
@@ -38,27 +39,25 @@ use trace_printer::{print, print_load};
 use trace_text::Mode;
 
 /// Both files of a play.
-#[tactic(auto, using(crate::proofs::Later::script_refused))]
+#[tactic(auto, using(crate::proofs::Later::script_refused, crate::proofs::Later::counts_later))]
 fn read_both<F: Files>(
     alloc: Global,
     source: &[u8],
     script: &[u8],
     files: &mut F,
-) -> Result<(Blocks, Script), Fault>
+) -> Result<(Blocks, Script), PlayError>
     ensures source { IfOk result (λ both. IsAccepted (F.content files.old source.now) both.0) }
     ensures playable { IfOk result (λ both. IsPlayable both.0) }
     ensures plain { IfOk result (λ both. first_alarm_or_job both.1 ≡ None) }
     ensures script { IfOk result (λ both. IsPlanned (F.content files.old script.now) both.1) }
-    ensures refused { IfErr result (IsRefusal
+    ensures refused { IfErr result (IsCause
         (file_in F.content F.faults F.never_fails files.old files.new source.now)
         (file_in F.content F.faults F.never_fails files.old files.new script.now)) }
     ensures counts { OnOk result ((other : List ℕ) → F.faults files.new other ≡ F.faults files.old other) }
-    ensures steady { IfErr result (λ fault. AreSteady (Some fault)
-        (file_in F.content F.faults F.never_fails files.old files.new source.now)
-        (file_in F.content F.faults F.never_fails files.old files.new script.now)) }
+    ensures steady { IfErr result (λ error. (other : List ℕ) → PlayCounts error (file_in F.content F.faults F.never_fails files.old files.new other)) }
 {
-    let blocks = read_blocks(alloc, files, source)?;
-    let plant = read_plant(alloc, files, script)?;
+    let blocks = read_blocks(alloc, files, source).map_err(PlayError::Source)?;
+    let plant = read_plant(alloc, files, script).map_err(PlayError::Script)?;
     Ok((blocks, plant))
 }
 
@@ -202,7 +201,7 @@ fn serve_play<F: Files, K: Sink>(
 {
     let (blocks, plant) = match read_both(alloc, source, script, files) {
         Ok(both) => both,
-        Err(fault) => return Outcome::refused(alloc, fault),
+        Err(error) => return Outcome::refused(alloc, play_fault(error)),
     };
     play_and_write(alloc, &blocks, plant, visits, sink, a, b)
 }
@@ -241,7 +240,7 @@ fn serve_load<F: Files, K: Sink>(
 {
     match load_source(alloc, files, source) {
         Ok(blocks) => write_blocks(alloc, sink, &blocks),
-        Err(fault) => Outcome::refused(alloc, fault),
+        Err(error) => Outcome::refused(alloc, source_fault(error)),
     }
 }
 
@@ -279,7 +278,7 @@ fn serve_connect<F: Files, K: Sink>(
 {
     match play_connection(alloc, files, events) {
         Ok(played) => write_connection(alloc, sink, &played.text),
-        Err(fault) => Outcome::refused(alloc, fault),
+        Err(error) => Outcome::refused(alloc, script_fault(error)),
     }
 }
 
