@@ -14,6 +14,7 @@ use Rattle.subsystem.specs.Part.{Part}
 use Rattle.stl_lex.specs.declared.fault.LoadFault.{LoadFault}
 use Rattle.plant_script.specs.declared.script_error.ScriptFault as scripts
 use Rattle.pair_top.proofs.Refusals.{file_told}
+use Rattle.pair_top.proofs.Due.{accepted_is_due}
 use Rattle.plant_script.specs.Plan.{Plan}
 use Rattle.trace_text.specs.Tail.{Tail}
 use Rattle.trace_text.specs.CpuTail.{tail_of}
@@ -23,7 +24,7 @@ use Rattle.pair_core.specs.World.{World, first_world, play}
 use Rattle.pair_top.specs.Reading.{File}
 use Rattle.pair_top.specs.Orders.{Manner, is_alone, visits_for}
 use Rattle.pair_top.specs.Playing.{of_side}
-use Rattle.pair_top.specs.Serving.{Written, Account, AreNew, AreUnused, AreAccepted, IsQuiet, IsCause, PlayCounts, AreSteady, IsDone, IsFinished, IsPlay, setup_of, ComesToTail, IsTailOf, IsWriting, play_text, IsOutcome, PlayServed}
+use Rattle.pair_top.specs.Serving.{Written, Account, AreNew, AreUnused, AreAccepted, IsQuiet, IsCause, PlayCounts, AreSteady, IsDone, IsFinished, IsPlay, setup_of, ComesToTail, IsTailOf, IsWriting, play_text, IsOutcome, PlayServed, GivesWhatIsDue}
 
 module _ (manner : Manner) (source script : File) (sink : Written) (account : Account) (a b : Part) (program : Program) (plan : Plan)
     (accepted : AreAccepted source.content script.content program plan) where
@@ -39,7 +40,7 @@ module _ (manner : Manner) (source script : File) (sink : Written) (account : Ac
   served (Some (Differs line)) o = absurd o
 
   -- and it was done to its end, but for want of memory, where the sink took all
-  pub done : (fault : Option Fault) → IsOutcome manner program plan sink account a b fault → (Rose sink.before sink.now → ⊥) → IsDone fault
+  done : (fault : Option Fault) → IsOutcome manner program plan sink account a b fault → (Rose sink.before sink.now → ⊥) → IsDone fault
   done None o takes = tt
   done (Some SinkFault) o takes = takes o.3.1.0
   done (Some NoMemory) o takes = tt
@@ -49,6 +50,10 @@ module _ (manner : Manner) (source script : File) (sink : Written) (account : Ac
   done (Some (SourceFault fault)) o takes = o
   done (Some (ScriptFault fault)) o takes = o
   done (Some (Differs line)) o takes = o
+
+  -- so it gives what is due
+  pub outcome_is_due : (fault : Option Fault) → IsOutcome manner program plan sink account a b fault → GivesWhatIsDue source script sink fault
+  outcome_is_due fault o = accepted_is_due source script sink program plan fault accepted (done fault o)
 
 -- what is as it was made took no entry
 pub unused : (a b : Part) → AreNew a b → AreUnused a b

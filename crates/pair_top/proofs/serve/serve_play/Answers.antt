@@ -2,8 +2,8 @@
 use Rattle.std.proofs.Common.{refl}
 use Rattle.pair_top.specs.Serving.{account_of}
 use Rattle.pair_top.specs.WordsView.{manner_in}
-use Rattle.pair_top.proofs.Due.{refusal_is_due, accepted_is_due}
-use Rattle.pair_top.proofs.Serves.{served, done, refused, refused_is_none, refused_steady}
+use Rattle.pair_top.proofs.Due.{refusal_is_due}
+use Rattle.pair_top.proofs.Serves.{served, outcome_is_due, refused, refused_is_none, refused_steady}
 use Rattle.pair_top.proofs.serve.serve_play.Goals as goal
 
 pub returns-clause-served : goal.returns-clause-served
@@ -14,10 +14,9 @@ returns-clause-served g c =
 
 pub returns-clause-due : goal.returns-clause-due
 returns-clause-due g c =
-    accepted_is_due _ _ _ c.in-Ok.both.0 c.in-Ok.both.1 c.play_and_write.result.fault (record { accepted = c.in-Ok.ensures.source; planned = c.in-Ok.ensures.script })
-    (done (manner_in c.args.visits) _ _ _ _ c.play_and_write.new.a c.play_and_write.new.b c.in-Ok.both.0 c.in-Ok.both.1
+    outcome_is_due (manner_in c.args.visits) _ _ _ _ c.play_and_write.new.a c.play_and_write.new.b c.in-Ok.both.0 c.in-Ok.both.1
     (record { accepted = c.in-Ok.ensures.source; planned = c.in-Ok.ensures.script })
-    c.play_and_write.result.fault c.play_and_write.ensures.played)
+    c.play_and_write.result.fault c.play_and_write.ensures.played
 
 pub returns-in-Err-clause-served : goal.returns-in-Err-clause-served
 returns-in-Err-clause-served g c =
