@@ -1,6 +1,7 @@
 ghost use Rattle.std.specs.Prelude.{true, [], IfOk};
 ghost use Rattle.s7_base.specs.Blocks.{IsPlayable};
-ghost use Rattle.pair_core.specs.World.{part, first_part};
+ghost use Rattle.pair_core.specs.World.{part};
+ghost use Rattle.pair_core.specs.OwnParts.{first_part};
 ghost use Rattle.pair_core.specs.Places.{IsAt};
 
 use event_record::Record;

@@ -1,4 +1,6 @@
 //! Plays the command of a folder, and shows how it ended.
+ghost use Rattle.std.specs.Prelude.{IfOk};
+ghost use Rattle.subsystem.specs.Part.{IsNew};
 
 use anyhow::Context;
 use pair_io::{Files, RealSink, Sink};
@@ -18,6 +20,13 @@ fn words_of(alloc: Global, text: &str) -> anyhow::Result<Vec<Vec<u8>>> {
     Ok(words)
 }
 
+/// A side before a play.
+fn new_side(alloc: Global) -> anyhow::Result<Subsystem>
+    ensures { IfOk result IsNew }
+{
+    Subsystem::new(alloc).ok().context("no memory")
+}
+
 /// Does what the file `args` of a folder says, a word a line, over these files and this sink.
 pub fn play<R: Threads + Wait + Sync + rt::Files + Alloc<A = Global>, F: Files, K: Sink>(
     rt: &R,
@@ -28,8 +37,8 @@ pub fn play<R: Threads + Wait + Sync + rt::Files + Alloc<A = Global>, F: Files, 
     let alloc = rt.alloc();
     let args = fs::read_to_string(rt, format!(in alloc; "{folder}/args")?.as_str())?;
     let words = words_of(alloc, args.as_str())?;
-    let mut a = Subsystem::new(alloc).ok().context("no memory")?;
-    let mut b = Subsystem::new(alloc).ok().context("no memory")?;
+    let mut a = new_side(alloc)?;
+    let mut b = new_side(alloc)?;
     let outcome = s7h_top(rt, alloc, &words, files, sink, &mut a, &mut b, &NoGate);
     Ok(outcome.fault)
 }
