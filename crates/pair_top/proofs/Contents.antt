@@ -1,7 +1,8 @@
 -- What was read of a file that tells its content.
 use Rattle.std.proofs.Common.{◌≡◌, ◌<◌, ℕ, List, length, Option, Some, Result, Ok, Err, ap, subst, arith}
 use Rattle.std.specs.Prelude.{IfSome}
-use Rattle.pair_top.specs.Reading.{limit, File, WasRead, IsTooLong}
+use Rattle.pair_top.specs.Outside.{File}
+use Rattle.pair_top.specs.Reading.{limit, WasRead, IsTooLong}
 use Rattle.pair_top.specs.Serving.{Tells, TellsTooMuch}
 
 -- what was read of a file that tells its content is that content

@@ -14,8 +14,9 @@ use Rattle.pair_top.proofs.Refusals.{long_told, fault_told, later_told, none_tol
 use Rattle.plant_script.specs.Plan.{Plan}
 use Rattle.plant_script.specs.declared.script_error.ScriptFault as scripts
 use Rattle.plant_script.specs.SecondPass.{script_of}
-use Rattle.pair_top.specs.Reading.{File, IsAccepted, IsPlanned, IsNoSource, IsNoScript, HasFailed, IsNotPlayed, played_script}
-use Rattle.pair_top.specs.Serving.{Written, AreAccepted, IsCause, IsDue, IsDone, TellsTooMuch, TellsSource, TellsNoSource, TellsScript, TellsNoScript, GivesWhatIsDue}
+use Rattle.pair_top.specs.Outside.{File, Written}
+use Rattle.pair_top.specs.Reading.{IsAccepted, IsPlanned, IsNoSource, IsNoScript, HasFailed, IsNotPlayed, played_script}
+use Rattle.pair_top.specs.Serving.{AreAccepted, IsCause, IsDue, IsDone, TellsTooMuch, TellsSource, TellsNoSource, TellsScript, TellsNoScript, GivesWhatIsDue}
 
 accepts_no_long : (file : File) (program : Program) → TellsTooMuch file → IsAccepted file.content program → ⊥
 accepts_no_long file program much accepted = long_unread file accepted.loaded.bytes much accepted.loaded.read

@@ -7,7 +7,8 @@ use Rattle.plant_script.specs.declared.script_error.ScriptFault as scripts
 use Rattle.pair_top.specs.declared.errors.FileError.{FileError}
 use Rattle.pair_top.specs.declared.errors.FileError.TheVariants as errors
 use Rattle.pair_top.specs.declared.errors.PlayError.TheVariants as refusals
-use Rattle.pair_top.specs.Reading.{File, IsAccepted, IsTooLong, IsNoScript, HasFailed, IsRefused, CountsOnly}
+use Rattle.pair_top.specs.Outside.{File}
+use Rattle.pair_top.specs.Reading.{IsAccepted, IsTooLong, IsNoScript, HasFailed, IsRefused, CountsOnly}
 use Rattle.pair_top.specs.Serving.{IsCause}
 
 -- a file, and the same as a second read found it: the first read, of another file, left its content and its promise
@@ -33,7 +34,4 @@ module _ (file later : File) (content : later.content ≡ file.content) (before 
   -- what the second read counted was counted in all
   pub counts_later : {E : Type 0} (error : FileError E) → CountsOnly error later → CountsOnly error file
   counts_later (errors.Unread unread.Failed) r = tt
-  counts_later (errors.Unread unread.TooLong) r = sym now ∙ r ∙ before
-  counts_later (errors.Unread unread.NoMemory) r = sym now ∙ r ∙ before
-  counts_later (errors.Content fault) r = sym now ∙ r ∙ before
-  counts_later errors.NoMemory r = sym now ∙ r ∙ before
+  counts_later error r = sym now ∙ r ∙ before

@@ -10,8 +10,9 @@ use Rattle.pair_top.specs.declared.faults.Fault.TheVariants.{Usage, SourceFault,
 use Rattle.pair_top.specs.declared.errors.FileError.{FileError}
 use Rattle.pair_top.specs.declared.errors.FileError.TheVariants as errors
 use Rattle.pair_top.specs.Errors as told
-use Rattle.pair_top.specs.Reading.{File, IsFaulty, IsRefused, CountsOnly}
-use Rattle.pair_top.specs.Serving.{Written, Account, IsQuiet}
+use Rattle.pair_top.specs.Outside.{File, Written}
+use Rattle.pair_top.specs.Reading.{IsFaulty, IsRefused, CountsOnly}
+use Rattle.pair_top.specs.Serving.{Account, IsQuiet}
 use Rattle.pair_top.specs.Loading.{LoadServed, IsSteadyUnless, TellsFault, LoadsWhatIsDue}
 use Rattle.pair_top.specs.Connecting.{HasBadEvents, ConnectServed, TellsBadEvents, ConnectsWhatIsDue}
 use Rattle.pair_top.proofs.Contents.{same_bytes, long_unread, one_meaning, one_fault}
@@ -22,10 +23,7 @@ use Rattle.pair_top.proofs.Refusals.{long_told, fault_told, none_told, file_told
 pub load_refused : (source : File) (sink : Written) (account : Account) (error : FileError LoadFault) → IsRefused IsFaulty source error → IsQuiet sink account
     → LoadServed source sink account (Some (told.source_fault error))
 load_refused source sink account (errors.Unread unread.Failed) r quiet = (record { error = errors.Unread unread.Failed; told_as = refl; cause = r }, quiet)
-load_refused source sink account (errors.Unread unread.TooLong) r quiet = (record { error = errors.Unread unread.TooLong; told_as = refl; cause = r }, quiet)
-load_refused source sink account (errors.Unread unread.NoMemory) r quiet = (record { error = errors.Unread unread.NoMemory; told_as = refl; cause = r }, quiet)
-load_refused source sink account (errors.Content fault) r quiet = (record { error = errors.Content fault; told_as = refl; cause = r }, quiet)
-load_refused source sink account errors.NoMemory r quiet = (record { error = errors.NoMemory; told_as = refl; cause = r }, quiet)
+load_refused source sink account error r quiet = (record { error = error; told_as = refl; cause = r }, quiet)
 
 pub load_steady : (source : File) (error : FileError LoadFault) → CountsOnly error source → IsSteadyUnless (Some (told.source_fault error)) source
 load_steady source error r = steady_told LoadFault 0 (λ fault. SourceFault fault) source (λ fault h. h) error r
@@ -57,10 +55,7 @@ load_is_due source sink error r = record {
 pub connect_refused : (events : File) (sink : Written) (account : Account) (error : FileError scripts.ScriptFault) → IsRefused HasBadEvents events error → IsQuiet sink account
     → ConnectServed events sink account (Some (told.script_fault error))
 connect_refused events sink account (errors.Unread unread.Failed) r quiet = (record { error = errors.Unread unread.Failed; told_as = refl; cause = r }, quiet)
-connect_refused events sink account (errors.Unread unread.TooLong) r quiet = (record { error = errors.Unread unread.TooLong; told_as = refl; cause = r }, quiet)
-connect_refused events sink account (errors.Unread unread.NoMemory) r quiet = (record { error = errors.Unread unread.NoMemory; told_as = refl; cause = r }, quiet)
-connect_refused events sink account (errors.Content fault) r quiet = (record { error = errors.Content fault; told_as = refl; cause = r }, quiet)
-connect_refused events sink account errors.NoMemory r quiet = (record { error = errors.NoMemory; told_as = refl; cause = r }, quiet)
+connect_refused events sink account error r quiet = (record { error = error; told_as = refl; cause = r }, quiet)
 
 pub connect_steady : (events : File) (error : FileError scripts.ScriptFault) → CountsOnly error events → IsSteadyUnless (Some (told.script_fault error)) events
 connect_steady events error r = steady_told scripts.ScriptFault 1 (λ fault. ScriptFault fault) events (λ fault h. h) error r

@@ -6,7 +6,8 @@ use Rattle.pair_top.specs.declared.faults.Fault.TheVariants.{Usage, TooLong}
 use Rattle.pair_top.specs.declared.errors.FileError.{FileError}
 use Rattle.pair_top.specs.declared.errors.FileError.TheVariants as errors
 use Rattle.pair_top.specs.Errors.{told_of}
-use Rattle.pair_top.specs.Reading.{File, HasFailed, IsRefused, CountsOnly, IsSteady}
+use Rattle.pair_top.specs.Outside.{File}
+use Rattle.pair_top.specs.Reading.{HasFailed, IsRefused, CountsOnly, IsSteady}
 use Rattle.pair_top.specs.Serving.{IsDue, IsDone, Tells, TellsTooMuch}
 use Rattle.pair_top.specs.Loading.{IsSteadyUnless}
 use Rattle.pair_top.proofs.Contents.{not_long}
@@ -52,16 +53,12 @@ module _ (E : Type 0) (which : ℕ) (content : E → Fault) where
   -- it is no refusal of the arguments
   pub file_told : ((fault : E) → content fault ≡ Usage → ⊥) → (error : FileError E) → told_of which content error ≡ Usage → ⊥
   file_told none (errors.Unread unread.Failed) h = cc
-  file_told none (errors.Unread unread.TooLong) h = cc
-  file_told none (errors.Unread unread.NoMemory) h = cc
   file_told none (errors.Content fault) h = none fault h
-  file_told none errors.NoMemory h = cc
+  file_told none error h = cc
 
   -- the file counted a fault only where it failed
   pub steady_told : (file : File) → ((fault : E) → IsSteady file → IsSteadyUnless (Some (content fault)) file) → (error : FileError E) → CountsOnly error file
       → IsSteadyUnless (Some (told_of which content error)) file
   steady_told file other (errors.Unread unread.Failed) r = tt
-  steady_told file other (errors.Unread unread.TooLong) r = r
-  steady_told file other (errors.Unread unread.NoMemory) r = r
   steady_told file other (errors.Content fault) r = other fault r
-  steady_told file other errors.NoMemory r = r
+  steady_told file other error r = r

@@ -9,7 +9,7 @@ use Rattle.pair_top.specs.Errors.{play_fault}
 use Rattle.s7_events.specs.declared.entry.Side.{Side}
 use Rattle.s7_base.specs.Blocks.{Program}
 use Rattle.pair_top.specs.declared.faults.Fault.{Fault}
-use Rattle.pair_top.specs.declared.faults.Fault.TheVariants.{Usage, FileFault, TooLong, SourceFault, ScriptFault, SinkFault, NoMemory, Differs}
+use Rattle.pair_top.specs.declared.faults.Fault.TheVariants.{Usage, SourceFault, ScriptFault, SinkFault, NoMemory}
 use Rattle.subsystem.specs.Part.{Part}
 use Rattle.stl_lex.specs.declared.fault.LoadFault.{LoadFault}
 use Rattle.plant_script.specs.declared.script_error.ScriptFault as scripts
@@ -21,10 +21,10 @@ use Rattle.trace_text.specs.CpuTail.{tail_of}
 use Rattle.pair_core.specs.Endings.{HasTail}
 use Rattle.pair_core.specs.Setup.{Setup}
 use Rattle.pair_core.specs.World.{World, first_world, play}
-use Rattle.pair_top.specs.Reading.{File}
+use Rattle.pair_top.specs.Outside.{File, Written}
 use Rattle.pair_top.specs.Orders.{Manner, is_alone, visits_for}
 use Rattle.pair_top.specs.Playing.{of_side}
-use Rattle.pair_top.specs.Serving.{Written, Account, AreNew, AreUnused, AreAccepted, IsQuiet, IsCause, PlayCounts, AreSteady, IsDone, IsFinished, IsPlay, setup_of, ComesToTail, IsTailOf, IsWriting, play_text, IsOutcome, PlayServed, GivesWhatIsDue}
+use Rattle.pair_top.specs.Serving.{Account, AreNew, AreUnused, AreAccepted, IsQuiet, IsCause, PlayCounts, AreSteady, IsDone, IsFinished, IsPlay, setup_of, ComesToTail, IsTailOf, IsWriting, play_text, IsOutcome, PlayServed, GivesWhatIsDue}
 
 module _ (manner : Manner) (source script : File) (sink : Written) (account : Account) (a b : Part) (program : Program) (plan : Plan)
     (accepted : AreAccepted source.content script.content program plan) where
@@ -32,24 +32,14 @@ module _ (manner : Manner) (source script : File) (sink : Written) (account : Ac
   served None o = (program, plan, accepted, o)
   served (Some SinkFault) o = (program, plan, accepted, o)
   served (Some NoMemory) o = (record { error = refusals.Source errors.NoMemory; told_as = refl; cause = tt }, o.0, o.1)
-  served (Some Usage) o = absurd o
-  served (Some (FileFault which)) o = absurd o
-  served (Some (TooLong which)) o = absurd o
-  served (Some (SourceFault fault)) o = absurd o
-  served (Some (ScriptFault fault)) o = absurd o
-  served (Some (Differs line)) o = absurd o
+  served (Some fault) o = absurd o
 
   -- and it was done to its end, but for want of memory, where the sink took all
   done : (fault : Option Fault) → IsOutcome manner program plan sink account a b fault → (Rose sink.before sink.now → ⊥) → IsDone fault
   done None o takes = tt
   done (Some SinkFault) o takes = takes o.3.1.0
   done (Some NoMemory) o takes = tt
-  done (Some Usage) o takes = o
-  done (Some (FileFault which)) o takes = o
-  done (Some (TooLong which)) o takes = o
-  done (Some (SourceFault fault)) o takes = o
-  done (Some (ScriptFault fault)) o takes = o
-  done (Some (Differs line)) o takes = o
+  done (Some fault) o takes = absurd o
 
   -- so it gives what is due
   pub outcome_is_due : (fault : Option Fault) → IsOutcome manner program plan sink account a b fault → GivesWhatIsDue source script sink fault
@@ -62,16 +52,11 @@ unused a b new = record { first = inl new.first; second = inl new.second }
 -- a refusal of the files with which nothing was played and nothing written, and both subsystems are as they were made
 pub refused : (manner : Manner) (source script : File) (sink : Written) (account : Account) (a b : Part) (error : PlayError)
     → IsCause source script error → IsQuiet sink account → AreNew a b → PlayServed manner source script sink account a b (Some (play_fault error))
-refused manner source script sink account a b (refusals.Source (errors.Unread unread.Failed)) r quiet new = (record { error = refusals.Source (errors.Unread unread.Failed); told_as = refl; cause = r }, quiet, new)
-refused manner source script sink account a b (refusals.Source (errors.Unread unread.TooLong)) r quiet new = (record { error = refusals.Source (errors.Unread unread.TooLong); told_as = refl; cause = r }, quiet, new)
 refused manner source script sink account a b (refusals.Source (errors.Unread unread.NoMemory)) r quiet new = (record { error = refusals.Source (errors.Unread unread.NoMemory); told_as = refl; cause = r }, quiet, unused a b new)
-refused manner source script sink account a b (refusals.Source (errors.Content fault)) r quiet new = (record { error = refusals.Source (errors.Content fault); told_as = refl; cause = r }, quiet, new)
 refused manner source script sink account a b (refusals.Source errors.NoMemory) r quiet new = (record { error = refusals.Source errors.NoMemory; told_as = refl; cause = r }, quiet, unused a b new)
-refused manner source script sink account a b (refusals.Script (errors.Unread unread.Failed)) r quiet new = (record { error = refusals.Script (errors.Unread unread.Failed); told_as = refl; cause = r }, quiet, new)
-refused manner source script sink account a b (refusals.Script (errors.Unread unread.TooLong)) r quiet new = (record { error = refusals.Script (errors.Unread unread.TooLong); told_as = refl; cause = r }, quiet, new)
 refused manner source script sink account a b (refusals.Script (errors.Unread unread.NoMemory)) r quiet new = (record { error = refusals.Script (errors.Unread unread.NoMemory); told_as = refl; cause = r }, quiet, unused a b new)
-refused manner source script sink account a b (refusals.Script (errors.Content fault)) r quiet new = (record { error = refusals.Script (errors.Content fault); told_as = refl; cause = r }, quiet, new)
 refused manner source script sink account a b (refusals.Script errors.NoMemory) r quiet new = (record { error = refusals.Script errors.NoMemory; told_as = refl; cause = r }, quiet, unused a b new)
+refused manner source script sink account a b error r quiet new = (record { error = error; told_as = refl; cause = r }, quiet, new)
 
 -- it is none of the arguments
 pub refused_is_none : (error : PlayError) → play_fault error ≡ Usage → ⊥
@@ -81,15 +66,8 @@ refused_is_none (refusals.Script error) h = file_told scripts.ScriptFault 1 (λ 
 -- it counted faults of the files only where one failed
 pub refused_steady : (source script : File) (error : PlayError) → PlayCounts error source → PlayCounts error script → AreSteady (Some (play_fault error)) source script
 refused_steady source script (refusals.Source (errors.Unread unread.Failed)) first second = tt
-refused_steady source script (refusals.Source (errors.Unread unread.TooLong)) first second = (first, second)
-refused_steady source script (refusals.Source (errors.Unread unread.NoMemory)) first second = (first, second)
-refused_steady source script (refusals.Source (errors.Content fault)) first second = (first, second)
-refused_steady source script (refusals.Source errors.NoMemory) first second = (first, second)
 refused_steady source script (refusals.Script (errors.Unread unread.Failed)) first second = tt
-refused_steady source script (refusals.Script (errors.Unread unread.TooLong)) first second = (first, second)
-refused_steady source script (refusals.Script (errors.Unread unread.NoMemory)) first second = (first, second)
-refused_steady source script (refusals.Script (errors.Content fault)) first second = (first, second)
-refused_steady source script (refusals.Script errors.NoMemory) first second = (first, second)
+refused_steady source script error first second = (first, second)
 
 -- a play whose text was written, or a front of it
 pub outcome : (manner : Manner) (program : Program) (plan : Plan) (sink : Written) (account : Account) (a b : Part) (tail : Tail) (fault : Option Fault)
@@ -97,13 +75,7 @@ pub outcome : (manner : Manner) (program : Program) (plan : Plan) (sink : Writte
     → IsOutcome manner program plan sink account a b fault
 outcome manner program plan sink account a b tail None played shows wrote = (played, tail, shows, wrote)
 outcome manner program plan sink account a b tail (Some SinkFault) played shows wrote = (played, tail, shows, wrote)
-outcome manner program plan sink account a b tail (Some NoMemory) played shows wrote = absurd wrote
-outcome manner program plan sink account a b tail (Some Usage) played shows wrote = absurd wrote
-outcome manner program plan sink account a b tail (Some (FileFault which)) played shows wrote = absurd wrote
-outcome manner program plan sink account a b tail (Some (TooLong which)) played shows wrote = absurd wrote
-outcome manner program plan sink account a b tail (Some (SourceFault fault)) played shows wrote = absurd wrote
-outcome manner program plan sink account a b tail (Some (ScriptFault fault)) played shows wrote = absurd wrote
-outcome manner program plan sink account a b tail (Some (Differs line)) played shows wrote = absurd wrote
+outcome manner program plan sink account a b tail (Some fault) played shows wrote = absurd wrote
 
 -- what was finished in the world of the ordered visits is a play
 pub is_play : (manner : Manner) (program : Program) (plan : Plan) (solo : Bool) (p : Setup) (w : World) (account : Account) (a b : Part)

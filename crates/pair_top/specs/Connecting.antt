@@ -8,8 +8,9 @@ use Rattle.ft_connection.specs.Outcome.{outcome}
 use Rattle.pair_top.specs.declared.faults.Fault.{Fault}
 use Rattle.pair_top.specs.declared.faults.Fault.TheVariants.{TooLong, ScriptFault, SinkFault}
 use Rattle.pair_top.specs.Errors.{script_fault}
-use Rattle.pair_top.specs.Reading.{File, HasFailed, WasRead, IsRefusalOf}
-use Rattle.pair_top.specs.Serving.{Written, Account, IsQuiet, IsUnplayed, IsWriting, IsDue, IsDone, Tells, TellsTooMuch}
+use Rattle.pair_top.specs.Outside.{File, Written}
+use Rattle.pair_top.specs.Reading.{HasFailed, WasRead, IsRefusalOf}
+use Rattle.pair_top.specs.Serving.{Account, IsQuiet, IsUnplayed, IsWriting, IsDue, IsDone, Tells, TellsTooMuch}
 
 -- a file was read whole, and playing its events gives this
 pub record IsConnected (content : Option (List ℕ)) (played : Played) : Type 0 where

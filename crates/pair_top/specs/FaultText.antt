@@ -5,7 +5,8 @@ use Rattle.std.specs.Io.KnownBytes.{Appends}
 use Rattle.pair_io.specs.Bytes.{AppendsFront}
 use Rattle.pair_top.specs.declared.faults.Fault.{Fault}
 use Rattle.pair_top.specs.declared.faults.Fault.TheVariants.{Usage, FileFault, TooLong, SourceFault, ScriptFault, SinkFault, NoMemory, Differs}
-use Rattle.pair_top.specs.Serving.{Written, HasRefused}
+use Rattle.pair_top.specs.Outside.{Written}
+use Rattle.pair_top.specs.Serving.{HasRefused}
 
 -- the name of a file by its number
 abbrev pub file_word : ℕ → List ℕ

@@ -4,6 +4,7 @@ pub mod FaultText
 pub mod Fields
 pub mod Loading
 pub mod Orders
+pub mod Outside
 pub mod Pattern
 pub mod PatternView
 pub mod Playing

@@ -8,10 +8,11 @@ use Rattle.trace_printer.specs.LoadText.{load_text}
 use Rattle.subsystem.specs.Part.{Part}
 use Rattle.pair_top.specs.declared.faults.Fault.{Fault}
 use Rattle.pair_top.specs.declared.faults.Fault.TheVariants.{Usage, FileFault, TooLong, SourceFault, SinkFault}
-use Rattle.pair_top.specs.Reading.{File, IsSteady, HasFailed, IsLoaded, IsLoadRefusal}
+use Rattle.pair_top.specs.Outside.{File, Written, Outside}
+use Rattle.pair_top.specs.Reading.{IsSteady, HasFailed, IsLoaded, IsLoadRefusal}
 use Rattle.pair_top.specs.Orders.{Order, play, load, connect}
 use Rattle.pair_top.specs.Connecting.{ConnectServed, ConnectsWhatIsDue}
-use Rattle.pair_top.specs.Serving.{Written, Account, IsQuiet, IsUnplayed, IsWriting, PlayServed, AreSteady, AreNew, IsDue, IsDone, Tells, TellsTooMuch, GivesWhatIsDue}
+use Rattle.pair_top.specs.Serving.{Account, IsQuiet, IsUnplayed, IsWriting, PlayServed, AreSteady, AreNew, IsDue, IsDone, Tells, TellsTooMuch, GivesWhatIsDue}
 
 -- a source was read whole, nothing was played, and the text of its blocks was written
 abbrev pub AreTold : File → Written → Account → Option Fault → Type 0
@@ -31,14 +32,15 @@ IsSteadyUnless (Some (FileFault which)) source = Unit {0}
 IsSteadyUnless fault source = IsSteady source
 
 -- What a call answers and leaves, by its command. A call that plays nothing leaves both subsystems as they were made.
-abbrev pub Served : Option Order → (List ℕ → File) → Written → Account → Part → Part → Option Fault → Type 0
-Served None file sink account a b fault = (fault ≡ Some Usage) × IsQuiet sink account × AreNew a b
-Served (Some (play manner source script)) file sink account a b fault =
-    PlayServed manner (file source) (file script) sink account a b fault × AreSteady fault (file source) (file script)
-Served (Some (load source)) file sink account a b fault =
-    LoadServed (file source) sink account fault × IsSteadyUnless fault (file source) × AreNew a b
-Served (Some (connect events)) file sink account a b fault =
-    ConnectServed (file events) sink account fault × IsSteadyUnless fault (file events) × AreNew a b
+abbrev pub Served : Option Order → Outside → Account → Part → Part → Option Fault → Type 0
+Served None outside account a b fault = (fault ≡ Some Usage) × IsQuiet outside.sink account × AreNew a b
+Served (Some (play manner source script)) outside account a b fault =
+    PlayServed manner (outside.file source) (outside.file script) outside.sink account a b fault
+    × AreSteady fault (outside.file source) (outside.file script)
+Served (Some (load source)) outside account a b fault =
+    LoadServed (outside.file source) outside.sink account fault × IsSteadyUnless fault (outside.file source) × AreNew a b
+Served (Some (connect events)) outside account a b fault =
+    ConnectServed (outside.file events) outside.sink account fault × IsSteadyUnless fault (outside.file events) × AreNew a b
 
 -- completeness --
 
@@ -62,8 +64,8 @@ pub record LoadsWhatIsDue (source : File) (sink : Written) (fault : Option Fault
   pub complete : TellsProgram source → (HasFailed source → ⊥) → (Rose sink.before sink.now → ⊥) → IsDone fault
 
 -- each refusal that is due comes, and where none is the command is done, by the command
-abbrev pub DueServed : Option Order → (List ℕ → File) → Written → Option Fault → Type 0
-DueServed None file sink fault = Unit {0}
-DueServed (Some (play manner source script)) file sink fault = GivesWhatIsDue (file source) (file script) sink fault
-DueServed (Some (load source)) file sink fault = LoadsWhatIsDue (file source) sink fault
-DueServed (Some (connect events)) file sink fault = ConnectsWhatIsDue (file events) sink fault
+abbrev pub DueServed : Option Order → Outside → Option Fault → Type 0
+DueServed None outside fault = Unit {0}
+DueServed (Some (play manner source script)) outside fault = GivesWhatIsDue (outside.file source) (outside.file script) outside.sink fault
+DueServed (Some (load source)) outside fault = LoadsWhatIsDue (outside.file source) outside.sink fault
+DueServed (Some (connect events)) outside fault = ConnectsWhatIsDue (outside.file events) outside.sink fault

@@ -10,6 +10,7 @@ use Rattle.pair_top.specs.declared.faults.Fault.{Fault}
 use Rattle.pair_top.specs.declared.errors.FileError.{FileError}
 use Rattle.pair_top.specs.declared.errors.FileError.TheVariants as errors
 use Rattle.pair_top.specs.Errors.{source_fault}
+use Rattle.pair_top.specs.Outside.{File}
 use Rattle.plant_script.specs.declared.script_error.ScriptFault as scripts
 use Rattle.plant_script.specs.Plan.{Plan, first_alarm_or_job}
 use Rattle.plant_script.specs.SecondPass.{script_of}
@@ -17,19 +18,6 @@ use Rattle.plant_script.specs.SecondPass.{script_of}
 -- the most bytes of a source or a script
 abbrev pub limit : ℕ
 limit = 1048576
-
--- a file in a call: its content where it is told, the count of its faults before the call and after it, and the promise, where
--- one was made before the call, that reads of it do not fail
-pub record File : Type 1 where
-  pub content : Option (List ℕ)
-  pub before : ℕ
-  pub now : ℕ
-  pub never_fails : Type 0
-
--- the file of a name in a call that found the files in one state and left them in another, by what files tell
-abbrev pub file_in : {S : Type 0} → (S → List ℕ → Option (List ℕ)) → (S → List ℕ → ℕ) → (S → List ℕ → Type 0) → S → S → List ℕ → File
-file_in content faults never_fails old new name =
-    record { content = content old name; before = faults old name; now = faults new name; never_fails = never_fails old name }
 
 -- no fault of the file was counted
 abbrev pub IsSteady : File → Type 0

@@ -20,7 +20,8 @@ use Rattle.pair_core.specs.Played.{IsRun, IsSideOf, answers_of}
 use Rattle.pair_core.specs.Setup.{Setup}
 use Rattle.pair_core.specs.World.{World, first_world, play}
 use Rattle.pair_core.specs.Finished.{ended_by}
-use Rattle.pair_top.specs.Reading.{limit, File, IsSteady, HasFailed, IsRefused, CountsOnly, IsAccepted, IsPlanned, IsNoSource, IsNoScript, IsNotPlayed, played_script}
+use Rattle.pair_top.specs.Outside.{File, Written}
+use Rattle.pair_top.specs.Reading.{limit, IsSteady, HasFailed, IsRefused, CountsOnly, IsAccepted, IsPlanned, IsNoSource, IsNoScript, IsNotPlayed, played_script}
 use Rattle.stl_lex.specs.declared.fault.LoadFault.{LoadFault}
 use Rattle.block_loader.specs.Load.{meaning_of}
 use Rattle.plant_script.specs.declared.script_error.ScriptFault as scripts
@@ -33,20 +34,6 @@ use Rattle.pair_top.specs.Orders.{Manner, is_alone, visits_for, mode_for}
 use Rattle.pair_top.specs.Playing.{ComesTo}
 
 -- a call --
-
--- the sink in a call: its bytes where they are told, and the count of its faults, before the call and after it; and the promise,
--- where one was made before the call, to take so many bytes without a fault
-pub record Written : Type 1 where
-  pub old : Option (List ℕ)
-  pub new : Option (List ℕ)
-  pub before : ℕ
-  pub now : ℕ
-  pub takes : ℕ → Type 0
-
--- the sink in a call that found it in one state and left it in another, by what a sink tells
-abbrev pub sink_in : {S : Type 0} → (S → Option (List ℕ)) → (S → ℕ) → (S → ℕ → Type 0) → S → S → Written
-sink_in written faults takes old new =
-    record { old = written old; new = written new; before = faults old; now = faults new; takes = takes old }
 
 -- what a call tells of a play: the record, its showings and its end
 pub record Account : Type 0 where

@@ -2,7 +2,7 @@
 ghost use Rattle.std.specs.Prelude.{◌≡◌, ◌++◌, ◌≤◌, ◌+◌, length};
 ghost use Rattle.pair_top.specs.FaultText.{file_word, numbered, fault_text, fault_line, IsReported};
 ghost use Rattle.std.specs.Fmt.{decimal};
-ghost use Rattle.pair_top.specs.Serving.{sink_in};
+ghost use Rattle.pair_top.specs.Outside.{sink_in};
 ghost use Rattle.pair_top.specs.Statuses.{status_of};
 
 use crate::Fault;
@@ -101,7 +101,7 @@ pub fn exit_status(fault: Option<Fault>) -> u8
 /// take is lost.
 pub fn report<E: Sink>(errors: &mut E, fault: Option<Fault>) -> u8
     ensures status { result ≡ status_of fault }
-    ensures line { IsReported fault (sink_in E.written E.faults E.takes errors.old errors.new) }
+    ensures line { IsReported fault (sink_in E.Sink errors.old errors.new) }
 {
     if let Some(fault) = fault {
         let line = fault_line(fault);

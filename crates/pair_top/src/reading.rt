@@ -2,7 +2,8 @@
 ghost use Rattle.plant_script.specs.Plan.{first_alarm_or_job};
 ghost use Rattle.std.specs.Prelude.{◌≡◌, ℕ, List, None, IfOk, IfErr, OnOk};
 ghost use Rattle.s7_base.specs.Blocks.{IsPlayable};
-ghost use Rattle.pair_top.specs.Reading.{file_in, WasRead, IsLoaded, IsFaulty, IsAccepted, IsPlanned, IsNoSource, IsNoScript, IsUnread, IsRefused, UnreadCounts, CountsOnly};
+ghost use Rattle.pair_top.specs.Reading.{WasRead, IsLoaded, IsFaulty, IsAccepted, IsPlanned, IsNoSource, IsNoScript, IsUnread, IsRefused, UnreadCounts, CountsOnly};
+ghost use Rattle.pair_top.specs.Outside.{file_in};
 ghost use Rattle.pair_top.specs.Connecting.{IsConnected, HasBadEvents};
 
 use crate::errors::FileError;
@@ -23,11 +24,11 @@ const NOT_BUILT: u8 = 99;
 /// Returns the bytes of the file of this name.
 fn read_file<F: Files>(alloc: Global, files: &mut F, name: &[u8]) -> Result<Vec<u8>, FilesError>
     ensures read { IfOk result (λ bytes. WasRead (F.content files.old name.now) bytes.items) }
-    ensures refused { IfErr result (IsUnread (file_in F.content F.faults F.never_fails files.old files.new name.now)) }
+    ensures refused { IfErr result (IsUnread (file_in F.Files files.old files.new name.now)) }
     ensures stays { (other : List ℕ) → F.content files.new other ≡ F.content files.old other }
     ensures promises { (other : List ℕ) → F.never_fails files.old other → F.never_fails files.new other }
     ensures counts { OnOk result ((other : List ℕ) → F.faults files.new other ≡ F.faults files.old other) }
-    ensures steady { IfErr result (λ error. (other : List ℕ) → UnreadCounts error (file_in F.content F.faults F.never_fails files.old files.new other)) }
+    ensures steady { IfErr result (λ error. (other : List ℕ) → UnreadCounts error (file_in F.Files files.old files.new other)) }
 {
     let mut bytes = Vec::new(alloc);
     files.read(name, LIMIT, &mut bytes)?;
@@ -41,11 +42,11 @@ pub fn load_source<F: Files>(
     name: &[u8],
 ) -> Result<Blocks, FileError<LoadFault>>
     ensures loaded { IfOk result (IsLoaded (F.content files.old name.now)) }
-    ensures refused { IfErr result (IsRefused IsFaulty (file_in F.content F.faults F.never_fails files.old files.new name.now)) }
+    ensures refused { IfErr result (IsRefused IsFaulty (file_in F.Files files.old files.new name.now)) }
     ensures stays { (other : List ℕ) → F.content files.new other ≡ F.content files.old other }
     ensures promises { (other : List ℕ) → F.never_fails files.old other → F.never_fails files.new other }
     ensures counts { OnOk result ((other : List ℕ) → F.faults files.new other ≡ F.faults files.old other) }
-    ensures steady { IfErr result (λ error. (other : List ℕ) → CountsOnly error (file_in F.content F.faults F.never_fails files.old files.new other)) }
+    ensures steady { IfErr result (λ error. (other : List ℕ) → CountsOnly error (file_in F.Files files.old files.new other)) }
 {
     let bytes = read_file(alloc, files, name).map_err(FileError::Unread)?;
     match load(alloc, &bytes) {
@@ -63,11 +64,11 @@ pub fn read_blocks<F: Files>(
 ) -> Result<Blocks, FileError<LoadFault>>
     ensures read { IfOk result (IsAccepted (F.content files.old name.now)) }
     ensures playable { IfOk result IsPlayable }
-    ensures refused { IfErr result (IsRefused IsNoSource (file_in F.content F.faults F.never_fails files.old files.new name.now)) }
+    ensures refused { IfErr result (IsRefused IsNoSource (file_in F.Files files.old files.new name.now)) }
     ensures stays { (other : List ℕ) → F.content files.new other ≡ F.content files.old other }
     ensures promises { (other : List ℕ) → F.never_fails files.old other → F.never_fails files.new other }
     ensures counts { OnOk result ((other : List ℕ) → F.faults files.new other ≡ F.faults files.old other) }
-    ensures steady { IfErr result (λ error. (other : List ℕ) → CountsOnly error (file_in F.content F.faults F.never_fails files.old files.new other)) }
+    ensures steady { IfErr result (λ error. (other : List ℕ) → CountsOnly error (file_in F.Files files.old files.new other)) }
 {
     let blocks = load_source(alloc, files, name)?;
     if !blocks.is_playable() {
@@ -87,11 +88,11 @@ pub fn read_plant<F: Files>(
 ) -> Result<Script, FileError<ScriptFault>>
     ensures read { IfOk result (IsPlanned (F.content files.old name.now)) }
     ensures plain { IfOk result (λ script. first_alarm_or_job script ≡ None) }
-    ensures refused { IfErr result (IsRefused IsNoScript (file_in F.content F.faults F.never_fails files.old files.new name.now)) }
+    ensures refused { IfErr result (IsRefused IsNoScript (file_in F.Files files.old files.new name.now)) }
     ensures stays { (other : List ℕ) → F.content files.new other ≡ F.content files.old other }
     ensures promises { (other : List ℕ) → F.never_fails files.old other → F.never_fails files.new other }
     ensures counts { OnOk result ((other : List ℕ) → F.faults files.new other ≡ F.faults files.old other) }
-    ensures steady { IfErr result (λ error. (other : List ℕ) → CountsOnly error (file_in F.content F.faults F.never_fails files.old files.new other)) }
+    ensures steady { IfErr result (λ error. (other : List ℕ) → CountsOnly error (file_in F.Files files.old files.new other)) }
 {
     let bytes = read_file(alloc, files, name).map_err(FileError::Unread)?;
     let script = match read_script(alloc, &bytes) {
@@ -113,11 +114,11 @@ pub fn play_connection<F: Files>(
     name: &[u8],
 ) -> Result<ft_connection::Played, FileError<ScriptFault>>
     ensures played { IfOk result (IsConnected (F.content files.old name.now)) }
-    ensures refused { IfErr result (IsRefused HasBadEvents (file_in F.content F.faults F.never_fails files.old files.new name.now)) }
+    ensures refused { IfErr result (IsRefused HasBadEvents (file_in F.Files files.old files.new name.now)) }
     ensures stays { (other : List ℕ) → F.content files.new other ≡ F.content files.old other }
     ensures promises { (other : List ℕ) → F.never_fails files.old other → F.never_fails files.new other }
     ensures counts { OnOk result ((other : List ℕ) → F.faults files.new other ≡ F.faults files.old other) }
-    ensures steady { IfErr result (λ error. (other : List ℕ) → CountsOnly error (file_in F.content F.faults F.never_fails files.old files.new other)) }
+    ensures steady { IfErr result (λ error. (other : List ℕ) → CountsOnly error (file_in F.Files files.old files.new other)) }
 {
     let bytes = read_file(alloc, files, name).map_err(FileError::Unread)?;
     match play(alloc, &bytes) {

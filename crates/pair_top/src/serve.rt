@@ -1,5 +1,5 @@
 //! The top call.
-ghost use Rattle.std.specs.Prelude.{◌≡◌, ◌≤◌, ◌↔◌, ℕ, List, true, None, Some, None, IsNone, IfOk, IfErr, OnOk, OnErr};
+ghost use Rattle.std.specs.Prelude.{◌≡◌, ◌≤◌, ◌↔◌, ℕ, List, true, None, Some, IsNone, IfOk, IfErr, OnOk, OnErr};
 ghost use Rattle.s7_base.specs.Blocks.{IsPlayable};
 ghost use Rattle.plant_script.specs.Plan.{first_alarm_or_job};
 ghost use Rattle.subsystem.specs.Part.{IsNew, IsOpen};
@@ -10,10 +10,11 @@ ghost use Rattle.trace_text.specs.CpuTail.{tail_of};
 ghost use Rattle.pair_core.specs.Endings.{HasTail};
 ghost use Rattle.trace_text.specs.Text.{text};
 ghost use Rattle.trace_printer.specs.LoadText.{load_text};
-ghost use Rattle.pair_top.specs.Reading.{file_in, IsAccepted, IsPlanned};
+ghost use Rattle.pair_top.specs.Outside.{file_in, sink_in, outside_of};
+ghost use Rattle.pair_top.specs.Reading.{IsAccepted, IsPlanned};
 ghost use Rattle.pair_top.specs.Orders.{is_alone, visits_for};
 ghost use Rattle.pair_top.specs.Playing.{AreAt, of_side};
-ghost use Rattle.pair_top.specs.Serving.{AreUnused, IsCause, PlayCounts, AreSteady, IsFinished, ComesToTail, IsWriting, IsOutcome, PlayServed, IsUnplayed, setup_of, account_of, sink_in, GivesWhatIsDue};
+ghost use Rattle.pair_top.specs.Serving.{AreUnused, IsCause, PlayCounts, AreSteady, IsFinished, ComesToTail, IsWriting, IsOutcome, PlayServed, IsUnplayed, setup_of, account_of, GivesWhatIsDue};
 ghost use Rattle.pair_top.specs.Loading.{LoadServed, IsSteadyUnless, LoadsWhatIsDue, Served, DueServed};
 ghost use Rattle.pair_top.specs.Connecting.{ConnectServed, ConnectsWhatIsDue};
 ghost use Rattle.pair_top.specs.Statuses.{status_of};
@@ -50,11 +51,9 @@ fn read_both<F: Files>(
     ensures playable { IfOk result (λ both. IsPlayable both.0) }
     ensures plain { IfOk result (λ both. first_alarm_or_job both.1 ≡ None) }
     ensures script { IfOk result (λ both. IsPlanned (F.content files.old script.now) both.1) }
-    ensures refused { IfErr result (IsCause
-        (file_in F.content F.faults F.never_fails files.old files.new source.now)
-        (file_in F.content F.faults F.never_fails files.old files.new script.now)) }
+    ensures refused { let file = file_in F.Files files.old files.new in IfErr result (IsCause (file source.now) (file script.now)) }
     ensures counts { OnOk result ((other : List ℕ) → F.faults files.new other ≡ F.faults files.old other) }
-    ensures steady { IfErr result (λ error. (other : List ℕ) → PlayCounts error (file_in F.content F.faults F.never_fails files.old files.new other)) }
+    ensures steady { IfErr result (λ error. (other : List ℕ) → PlayCounts error (file_in F.Files files.old files.new other)) }
 {
     let blocks = read_blocks(alloc, files, source).map_err(PlayError::Source)?;
     let plant = read_plant(alloc, files, script).map_err(PlayError::Script)?;
@@ -117,7 +116,7 @@ fn write_text<K: Sink>(sink: &mut K, mode: Mode, played: Played, last: &Subsyste
     ensures status { result.status ≡ status_of result.fault }
     ensures account { account_of result.entries.entries result.shown.list result.ended ≡ account_of played.entries.entries played.shown.list played.ended }
     ensures written { IsWriting (text mode played.entries.entries played.shown.list played.ended (tail_of last.now.machine))
-        (sink_in K.written K.faults K.takes sink.old sink.new) result.fault }
+        (sink_in K.Sink sink.old sink.new) result.fault }
 {
     let Played {
         entries,
@@ -155,7 +154,7 @@ fn play_and_write<K: Sink>(
     requires patterns { ArePatterns visits }
     ensures status { result.status ≡ status_of result.fault }
     ensures played { IsOutcome (manner_in visits.entry) blocks.now script
-        (sink_in K.written K.faults K.takes sink.old sink.new)
+        (sink_in K.Sink sink.old sink.new)
         (account_of result.entries.entries result.shown.list result.ended) a.new b.new result.fault }
 {
     let end = script.end();
@@ -185,19 +184,13 @@ fn serve_play<F: Files, K: Sink>(
     requires b { IsNew b.old }
     requires patterns { ArePatterns visits }
     ensures status { result.status ≡ status_of result.fault }
-    ensures served { PlayServed (manner_in visits.entry)
-        (file_in F.content F.faults F.never_fails files.old files.new source.now)
-        (file_in F.content F.faults F.never_fails files.old files.new script.now)
-        (sink_in K.written K.faults K.takes sink.old sink.new)
+    ensures served { let outside = outside_of F.Files files.old files.new K.Sink sink.old sink.new in
+        PlayServed (manner_in visits.entry) (outside.file source.now) (outside.file script.now) outside.sink
         (account_of result.entries.entries result.shown.list result.ended) a.new b.new result.fault }
-    ensures steady { AreSteady result.fault
-        (file_in F.content F.faults F.never_fails files.old files.new source.now)
-        (file_in F.content F.faults F.never_fails files.old files.new script.now) }
+    ensures steady { let file = file_in F.Files files.old files.new in AreSteady result.fault (file source.now) (file script.now) }
     ensures words { result.fault ≡ Some Fault.Usage → ⊥ }
-    ensures due { GivesWhatIsDue
-        (file_in F.content F.faults F.never_fails files.old files.new source.now)
-        (file_in F.content F.faults F.never_fails files.old files.new script.now)
-        (sink_in K.written K.faults K.takes sink.old sink.new) result.fault }
+    ensures due { let outside = outside_of F.Files files.old files.new K.Sink sink.old sink.new in
+        GivesWhatIsDue (outside.file source.now) (outside.file script.now) outside.sink result.fault }
 {
     let (blocks, plant) = match read_both(alloc, source, script, files) {
         Ok(both) => both,
@@ -211,7 +204,7 @@ fn write_blocks<K: Sink>(alloc: Global, sink: &mut K, blocks: &Blocks) -> Outcom
     ensures status { result.status ≡ status_of result.fault }
     ensures unplayed { IsUnplayed (account_of result.entries.entries result.shown.list result.ended) }
     ensures written { IsWriting (load_text blocks.now)
-        (sink_in K.written K.faults K.takes sink.old sink.new) result.fault }
+        (sink_in K.Sink sink.old sink.new) result.fault }
 {
     match print_load(sink, blocks) {
         Ok(()) => Outcome::quiet(alloc),
@@ -227,16 +220,13 @@ fn serve_load<F: Files, K: Sink>(
     sink: &mut K,
 ) -> Outcome
     ensures status { result.status ≡ status_of result.fault }
-    ensures served { LoadServed
-        (file_in F.content F.faults F.never_fails files.old files.new source.now)
-        (sink_in K.written K.faults K.takes sink.old sink.new)
+    ensures served { let outside = outside_of F.Files files.old files.new K.Sink sink.old sink.new in
+        LoadServed (outside.file source.now) outside.sink
         (account_of result.entries.entries result.shown.list result.ended) result.fault }
-    ensures steady { IsSteadyUnless result.fault
-        (file_in F.content F.faults F.never_fails files.old files.new source.now) }
+    ensures steady { IsSteadyUnless result.fault (file_in F.Files files.old files.new source.now) }
     ensures words { result.fault ≡ Some Fault.Usage → ⊥ }
-    ensures due { LoadsWhatIsDue
-        (file_in F.content F.faults F.never_fails files.old files.new source.now)
-        (sink_in K.written K.faults K.takes sink.old sink.new) result.fault }
+    ensures due { let outside = outside_of F.Files files.old files.new K.Sink sink.old sink.new in
+        LoadsWhatIsDue (outside.file source.now) outside.sink result.fault }
 {
     match load_source(alloc, files, source) {
         Ok(blocks) => write_blocks(alloc, sink, &blocks),
@@ -249,7 +239,7 @@ fn write_connection<K: Sink>(alloc: Global, sink: &mut K, text: &ConnText) -> Ou
     ensures status { result.status ≡ status_of result.fault }
     ensures unplayed { IsUnplayed (account_of result.entries.entries result.shown.list result.ended) }
     ensures written { IsWriting text.now
-        (sink_in K.written K.faults K.takes sink.old sink.new) result.fault }
+        (sink_in K.Sink sink.old sink.new) result.fault }
 {
     match sink.write(text.as_slice()) {
         Ok(()) => Outcome::quiet(alloc),
@@ -265,16 +255,13 @@ fn serve_connect<F: Files, K: Sink>(
     sink: &mut K,
 ) -> Outcome
     ensures status { result.status ≡ status_of result.fault }
-    ensures served { ConnectServed
-        (file_in F.content F.faults F.never_fails files.old files.new events.now)
-        (sink_in K.written K.faults K.takes sink.old sink.new)
+    ensures served { let outside = outside_of F.Files files.old files.new K.Sink sink.old sink.new in
+        ConnectServed (outside.file events.now) outside.sink
         (account_of result.entries.entries result.shown.list result.ended) result.fault }
-    ensures steady { IsSteadyUnless result.fault
-        (file_in F.content F.faults F.never_fails files.old files.new events.now) }
+    ensures steady { IsSteadyUnless result.fault (file_in F.Files files.old files.new events.now) }
     ensures words { result.fault ≡ Some Fault.Usage → ⊥ }
-    ensures due { ConnectsWhatIsDue
-        (file_in F.content F.faults F.never_fails files.old files.new events.now)
-        (sink_in K.written K.faults K.takes sink.old sink.new) result.fault }
+    ensures due { let outside = outside_of F.Files files.old files.new K.Sink sink.old sink.new in
+        ConnectsWhatIsDue (outside.file events.now) outside.sink result.fault }
 {
     match play_connection(alloc, files, events) {
         Ok(played) => write_connection(alloc, sink, &played.text),
@@ -296,13 +283,11 @@ fn serve_command<F: Files, K: Sink>(
     requires readable { IsReadable command }
     ensures status { result.status ≡ status_of result.fault }
     ensures served { Served (Some (order_of command.entry))
-        (file_in F.content F.faults F.never_fails files.old files.new)
-        (sink_in K.written K.faults K.takes sink.old sink.new)
+        (outside_of F.Files files.old files.new K.Sink sink.old sink.new)
         (account_of result.entries.entries result.shown.list result.ended) a.new b.new result.fault }
     ensures words { result.fault ≡ Some Fault.Usage → ⊥ }
     ensures due { DueServed (Some (order_of command.entry))
-        (file_in F.content F.faults F.never_fails files.old files.new)
-        (sink_in K.written K.faults K.takes sink.old sink.new) result.fault }
+        (outside_of F.Files files.old files.new K.Sink sink.old sink.new) result.fault }
 {
     match command {
         Command::Load { source } => serve_load(alloc, source, files, sink),
@@ -347,8 +332,7 @@ pub fn serve_alone<F: Files, K: Sink>(
     // What the command answers and leaves: the play and its text, the text of the blocks or of the connection, or the cause of the
     // refusal.
     ensures served { Served (command_of (words_of words.now))
-        (file_in F.content F.faults F.never_fails files.old files.new)
-        (sink_in K.written K.faults K.takes sink.old sink.new)
+        (outside_of F.Files files.old files.new K.Sink sink.old sink.new)
         (account_of result.entries.entries result.shown.list result.ended) a.new b.new result.fault }
 
     // The words are refused exactly where they are no command.
@@ -356,8 +340,7 @@ pub fn serve_alone<F: Files, K: Sink>(
 
     // Each refusal that is due comes; where none is, the command is done to its end.
     ensures due { DueServed (command_of (words_of words.now))
-        (file_in F.content F.faults F.never_fails files.old files.new)
-        (sink_in K.written K.faults K.takes sink.old sink.new) result.fault }
+        (outside_of F.Files files.old files.new K.Sink sink.old sink.new) result.fault }
 {
     match command_from(words) {
         None => Outcome::refused(alloc, Fault::Usage),
@@ -385,8 +368,7 @@ pub fn s7h_top<R: Threads + Wait + Sync, F: Files, K: Sink, G: Gate + Sync>(
     // What the command answers and leaves: the play and its text, the text of the blocks or of the connection, or the cause of the
     // refusal.
     ensures served { Served (command_of (words_of words.now))
-        (file_in F.content F.faults F.never_fails files.old files.new)
-        (sink_in K.written K.faults K.takes sink.old sink.new)
+        (outside_of F.Files files.old files.new K.Sink sink.old sink.new)
         (account_of result.entries.entries result.shown.list result.ended) a.new b.new result.fault }
 
     // The words are refused exactly where they are no command.
@@ -394,8 +376,7 @@ pub fn s7h_top<R: Threads + Wait + Sync, F: Files, K: Sink, G: Gate + Sync>(
 
     // Each refusal that is due comes; where none is, the command is done to its end.
     ensures due { DueServed (command_of (words_of words.now))
-        (file_in F.content F.faults F.never_fails files.old files.new)
-        (sink_in K.written K.faults K.takes sink.old sink.new) result.fault }
+        (outside_of F.Files files.old files.new K.Sink sink.old sink.new) result.fault }
 {
     serve_alone(alloc, words, files, sink, a, b)
 }

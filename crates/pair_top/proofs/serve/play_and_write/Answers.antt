@@ -5,7 +5,8 @@ use Rattle.trace_text.specs.declared.mode.Mode.{Mode}
 use Rattle.trace_text.specs.CpuTail.{tail_of}
 use Rattle.trace_text.specs.Text.{text}
 use Rattle.pair_top.specs.WordsView.{manner_in}
-use Rattle.pair_top.specs.Serving.{Account, IsWriting, IsOutcome, account_of, sink_in}
+use Rattle.pair_top.specs.Outside.{sink_in}
+use Rattle.pair_top.specs.Serving.{Account, IsWriting, IsOutcome, account_of}
 use Rattle.pair_top.proofs.Serves.{outcome, is_play, is_tail}
 use Rattle.pair_top.proofs.serve.play_and_write.Goals as goal
 
@@ -18,7 +19,7 @@ returns-in-A-clause-played g c =
     let account = account_of played.entries.entries played.shown.list played.ended in
     let a = c.play_out-played.new.a in
     let b = c.play_out-played.new.b in
-    let sink = sink_in g.K.Sink.written g.K.Sink.faults g.K.Sink.takes c.args.sink.now c.write_text.new.sink in
+    let sink = sink_in g.K.Sink c.args.sink.now c.write_text.new.sink in
     let fault = c.write_text.result.fault in
     let wrote = subst (λ (mode : Mode). IsWriting (text mode account.entries account.shown account.ended (tail_of a.machine)) sink fault) c.mode.ensures c.write_text.ensures.written in
     let solo = c.is_alone.result in
@@ -38,7 +39,7 @@ returns-in-B-clause-played g c =
     let account = account_of played.entries.entries played.shown.list played.ended in
     let a = c.play_out-played.new.a in
     let b = c.play_out-played.new.b in
-    let sink = sink_in g.K.Sink.written g.K.Sink.faults g.K.Sink.takes c.args.sink.now c.write_text-in-B.new.sink in
+    let sink = sink_in g.K.Sink c.args.sink.now c.write_text-in-B.new.sink in
     let fault = c.write_text-in-B.result.fault in
     let wrote = subst (λ (mode : Mode). IsWriting (text mode account.entries account.shown account.ended (tail_of b.machine)) sink fault) c.mode-in-B.ensures c.write_text-in-B.ensures.written in
     let solo = c.is_alone.result in
