@@ -34,3 +34,4 @@ pub mod Sources
 pub mod Bounds
 pub mod Numerals
 pub mod Literals
+pub mod Texts

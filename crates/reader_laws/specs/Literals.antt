@@ -1,5 +1,5 @@
 -- How literals are spelled: a prefix, and a value behind it.
-use Rattle.std.specs.Prelude.{◌≡◌, ◌^◌, ℕ, List, [], ◌∷◌, ◌++◌, min, nat_le, Bool, true, false, Some, if◌then◌else◌}
+use Rattle.std.specs.Prelude.{◌≡◌, ◌^◌, ℕ, List, [], ◌∷◌, ◌++◌, min, nat_le, Bool, true, false, Some, Ok, if◌then◌else◌}
 use Rattle.stl_lex.specs.Bytes.{spells, letters_of}
 use Rattle.stl_lex.specs.Numerals.{digit_count}
 use Rattle.stl_lex.specs.Durations.{is_duration, milliseconds}
@@ -10,10 +10,13 @@ use Rattle.stl_lex.specs.declared.piece.Form.TheVariants.{Lexeme}
 use Rattle.stl_lex.specs.declared.literals.LiteralValue.{LiteralValue}
 use Rattle.stl_lex.specs.declared.literals.LiteralValue.TheVariants as values
 use Rattle.stl_lex.specs.declared.literals.Literal.{Literal}
+use Rattle.stl_lex.specs.declared.token.Token.{Token}
+use Rattle.stl_lex.specs.Tokens.{text_tokens}
 use Rattle.s5_time.specs.Bcd.{bcd_of}
 use Rattle.stl_decl.specs.declared.constants.Constant.{Constant}
 use Rattle.stl_decl.specs.declared.constants.ConstantForm.TheVariants as forms
-use Rattle.stl_decl.specs.Constants.{stored, hexadecimal, timer_start, literal_constant}
+use Rattle.stl_decl.specs.Steps.{spelling}
+use Rattle.stl_decl.specs.Constants.{stored, hexadecimal, timer_start, literal_constant, constant_of}
 use Rattle.reader_laws.specs.Tokens.{IsOneOf}
 use Rattle.reader_laws.specs.Numerals.{IsNumeral}
 
@@ -47,10 +50,16 @@ pub record IsLiteral (c : Constant) (run : List ℕ) : Type 0 where
   pub letters : spells (letters_of row.prefix) front ≡ true
   pub value : IsValue row.value c bytes
 
--- the constant that a literal is read as is spelled so
+-- the constant that a run is read as, where it is a literal, is spelled so
 abbrev pub LiteralValuesReadAreSpelled : Type 0
 LiteralValuesReadAreSpelled = (run : List ℕ) (c : Constant) → literal_form run ≡ Lexeme kinds.Literal → literal_constant run ≡ Some c → IsLiteral c run
 
 -- what is spelled as a literal is one, and is read as its constant and as no other
 abbrev pub LiteralValuesSpelledAreRead : Type 0
 LiteralValuesSpelledAreRead = (run : List ℕ) (c : Constant) → IsLiteral c run → (literal_form run ≡ Lexeme kinds.Literal) × (literal_constant run ≡ Some c)
+
+-- the constant that a literal among the tokens of a text is read as is spelled by its bytes
+abbrev pub LiteralsOfTextsAreSpelled : Type 0
+LiteralsOfTextsAreSpelled =
+    (text : List ℕ) (tokens : List Token) (t : Token) (c : Constant)
+    → text_tokens text ≡ Ok tokens → IsOneOf t tokens → t.kind ≡ kinds.Literal → constant_of text t ≡ Some c → IsLiteral c (spelling text t)

@@ -12,7 +12,7 @@ ghost use Rattle.reader_laws.specs.Bodies.{BodiesReadAreSpelled, BodiesSpelledAr
 ghost use Rattle.reader_laws.specs.Blocks.{BlocksReadAreSpelled, BlocksSpelledAreRead, SourcesReadAreSpelled, SourcesSpelledAreRead, SpellingsAreOfOneSource, ProgramsLoadedAreSpelled, ProgramsSpelledAreLoaded};
 ghost use Rattle.reader_laws.specs.Bounds.{BoundsAreNeverMet};
 ghost use Rattle.reader_laws.specs.Numerals.{NumeralsReadAreSpelled, NumeralsSpelledAreRead};
-ghost use Rattle.reader_laws.specs.Literals.{LiteralValuesReadAreSpelled, LiteralValuesSpelledAreRead};
+ghost use Rattle.reader_laws.specs.Literals.{LiteralValuesReadAreSpelled, LiteralValuesSpelledAreRead, LiteralsOfTextsAreSpelled};
 ghost use Rattle.reader_laws.specs.Tables.{WordsSayTheirOperands, OneOperationForAnOperand, FormsStandApart};
 
 /// What is read as an operand is spelled so, by the tables of the language: its word says its area and its unit, its
@@ -277,4 +277,9 @@ pub fn literal_values_read_are_spelled()
 /// What is spelled as a literal is one, and is read as its constant and as no other.
 pub fn literal_values_spelled_are_read()
     ensures { LiteralValuesSpelledAreRead }
+{}
+
+/// The constant that a literal among the tokens of a text is read as is spelled by its bytes.
+pub fn literals_of_texts_are_spelled()
+    ensures { LiteralsOfTextsAreSpelled }
 {}
