@@ -15,3 +15,4 @@ pub mod Blocks
 pub mod Bounds
 pub mod Numerals
 pub mod Literals
+pub mod Forms

@@ -13,6 +13,7 @@ ghost use Rattle.reader_laws.specs.Blocks.{BlocksReadAreSpelled, BlocksSpelledAr
 ghost use Rattle.reader_laws.specs.Bounds.{BoundsAreNeverMet};
 ghost use Rattle.reader_laws.specs.Numerals.{NumeralsReadAreSpelled, NumeralsSpelledAreRead};
 ghost use Rattle.reader_laws.specs.Literals.{LiteralValuesReadAreSpelled, LiteralValuesSpelledAreRead, LiteralsOfTextsAreSpelled};
+ghost use Rattle.reader_laws.specs.Forms.{FormsAreOfTheirOperations};
 ghost use Rattle.reader_laws.specs.Tables.{WordsSayTheirOperands, OneOperationForAnOperand, FormsStandApart};
 
 /// What is read as an operand is spelled so, by the tables of the language: its word says its area and its unit, its
@@ -282,4 +283,10 @@ pub fn literal_values_spelled_are_read()
 /// The constant that a literal among the tokens of a text is read as is spelled by its bytes.
 pub fn literals_of_texts_are_spelled()
     ensures { LiteralsOfTextsAreSpelled }
+{}
+
+/// An operation that takes operands in a form allows one that is written in it; and where operands of the form are stored as
+/// no others are, an operation that allows one takes the form.
+pub fn forms_are_of_their_operations()
+    ensures { FormsAreOfTheirOperations }
 {}
