@@ -27,7 +27,7 @@ use Rattle.reader_laws.proofs.Typed.{of_takes}
 letters : (text word : List ℕ) (t : Token) → is_word text t word ≡ true → str_to_ascii_lowercase word ≡ str_to_ascii_lowercase (spelling text t)
 letters text word t h = (bytes_eq-Decides _ _).0 (and_parts (is_word_kind t.kind) (spells word (spelling text t)) h).1
 
-other_word : (text a b : List ℕ) (t : Token) → is_word text t a ≡ true → bytes_eq (str_to_ascii_lowercase b) (str_to_ascii_lowercase a) ≡ false → is_word text t b ≡ false
+pub other_word : (text a b : List ℕ) (t : Token) → is_word text t a ≡ true → bytes_eq (str_to_ascii_lowercase b) (str_to_ascii_lowercase a) ≡ false → is_word text t b ≡ false
 other_word text a b t h e =
     ap (λ w. is_word_kind t.kind && bytes_eq (str_to_ascii_lowercase b) w) (sym (letters text a t h))
     ∙ and_right (is_word_kind t.kind) (bytes_eq (str_to_ascii_lowercase b) (str_to_ascii_lowercase a)) e
@@ -173,10 +173,10 @@ heading_takes text tokens x e =
 
 module _ (text : List ℕ) where
   -- heads were passed over
-  record TakesHead (tokens rest : List Token) : Type 0 where
-    front : List Token
-    cut : tokens ≡ front ++ rest
-    head : IsHead text front
+  pub record TakesHead (tokens rest : List Token) : Type 0 where
+    pub front : List Token
+    pub cut : tokens ≡ front ++ rest
+    pub head : IsHead text front
 
   entry_takes : (t : Token) (ts rest : List Token) → is_owner_word text t ≡ true → entry_at text ts ≡ Ok rest → TakesHead (t ∷ ts) rest
   unfolding entry_at
@@ -210,7 +210,7 @@ module _ (text : List ℕ) where
         head = of_version t c.0.0 m.0.1 d.0.0 n.0.1 is ct.is mt.kind dt.is nt.kind;
       }
 
-  head_takes : (tokens rest : List Token) → head_at text tokens ≡ Ok (Some rest) → TakesHead tokens rest
+  pub head_takes : (tokens rest : List Token) → head_at text tokens ≡ Ok (Some rest) → TakesHead tokens rest
   unfolding head_at is_plain_head is_owner
   head_takes [] rest e = absurd cc
   head_takes (t ∷ ts) rest e = by (is_plain_head text t) refl (is_owner text t) refl (is_word text t (codes "VERSION")) refl e
@@ -260,7 +260,7 @@ word_no_note kinds.Word h = refl
 word_no_note _ h = absurd cc
 
 module _ (text : List ℕ) where
-  no_note : (a : List ℕ) (t : Token) → is_word text t a ≡ true → bytes_eq (str_to_ascii_lowercase (codes "KNOW_HOW_PROTECT")) (str_to_ascii_lowercase a) ≡ false → is_note text t ≡ false
+  pub no_note : (a : List ℕ) (t : Token) → is_word text t a ≡ true → bytes_eq (str_to_ascii_lowercase (codes "KNOW_HOW_PROTECT")) (str_to_ascii_lowercase a) ≡ false → is_note text t ≡ false
   no_note a t h e =
       or_from (is_note_kind t.kind) (is_word text t (codes "KNOW_HOW_PROTECT")) (word_no_note t.kind (and_parts (is_word_kind t.kind) (spells a (spelling text t)) h).0) (other_word text a (codes "KNOW_HOW_PROTECT") t h e)
 
@@ -310,7 +310,7 @@ module _ (text : List ℕ) where
       let q = or_parts (is_note text t) (is_owner_word text t) p.0 in
       rw (plain_is t ∙ q.0, owner_is t ∙ q.1, p.1) refl
 
-  some_tokens : (ts : List Token) → IsHead text ts → 0 < length ts
+  pub some_tokens : (ts : List Token) → IsHead text ts → 0 < length ts
   some_tokens ts (of_note t h) = omega arith
   some_tokens ts (of_owner t colon owner is sign kind) = omega arith
   some_tokens ts (of_version t colon major point minor is sign one dot two) = omega arith

@@ -29,3 +29,9 @@ pub mod Sections
 pub mod Assigned
 pub mod Heads
 pub mod Bodies
+pub mod Blocks
+pub mod Sources
+pub mod Bounds
+pub mod Numerals
+pub mod Literals
+pub mod Texts

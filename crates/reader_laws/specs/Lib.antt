@@ -11,3 +11,8 @@ pub mod Declared
 pub mod Sections
 pub mod Heads
 pub mod Bodies
+pub mod Blocks
+pub mod Bounds
+pub mod Numerals
+pub mod Literals
+pub mod Forms

@@ -9,6 +9,11 @@ ghost use Rattle.reader_laws.specs.Declared.{DeclarationsReadAreSpelled, Declara
 ghost use Rattle.reader_laws.specs.Sections.{SectionsReadAreSpelled, SectionsSpelledAreRead, TemporariesReadAreSpelled, TemporariesSpelledAreRead, StructuresReadAreSpelled, StructuresSpelledAreRead, AssignmentsReadAreSpelled, AssignmentsSpelledAreRead};
 ghost use Rattle.reader_laws.specs.Heads.{HeadingsReadAreSpelled, HeadingsSpelledAreRead, HeadsReadAreSpelled, HeadsSpelledAreRead};
 ghost use Rattle.reader_laws.specs.Bodies.{BodiesReadAreSpelled, BodiesSpelledAreRead};
+ghost use Rattle.reader_laws.specs.Blocks.{BlocksReadAreSpelled, BlocksSpelledAreRead, SourcesReadAreSpelled, SourcesSpelledAreRead, SpellingsAreOfOneSource, ProgramsLoadedAreSpelled, ProgramsSpelledAreLoaded};
+ghost use Rattle.reader_laws.specs.Bounds.{BoundsAreNeverMet};
+ghost use Rattle.reader_laws.specs.Numerals.{NumeralsReadAreSpelled, NumeralsSpelledAreRead};
+ghost use Rattle.reader_laws.specs.Literals.{LiteralValuesReadAreSpelled, LiteralValuesSpelledAreRead, LiteralsOfTextsAreSpelled};
+ghost use Rattle.reader_laws.specs.Forms.{FormsAreOfTheirOperations};
 ghost use Rattle.reader_laws.specs.Tables.{WordsSayTheirOperands, OneOperationForAnOperand, FormsStandApart};
 
 /// What is read as an operand is spelled so, by the tables of the language: its word says its area and its unit, its
@@ -209,4 +214,79 @@ pub fn bodies_read_are_spelled()
 /// What is spelled as the body of a code block is read as it and as no other, whatever follows it.
 pub fn bodies_spelled_are_read()
     ensures { BodiesSpelledAreRead }
+{}
+
+/// What is read as a block is spelled so: its first line, heads, and behind them temporary names, BEGIN and a body up to the
+/// end word of its kind, or in a data block names, BEGIN and assignments up to END_DATA_BLOCK.
+pub fn blocks_read_are_spelled()
+    ensures { BlocksReadAreSpelled }
+{}
+
+/// What is spelled as a block is read as it and as no other, whatever stands before it and whatever follows it.
+pub fn blocks_spelled_are_read()
+    ensures { BlocksSpelledAreRead }
+{}
+
+/// What is read as a source is spelled so, to its last token: blocks one behind the other.
+pub fn sources_read_are_spelled()
+    ensures { SourcesReadAreSpelled }
+{}
+
+/// What is spelled as a source is read as its blocks and as no others.
+pub fn sources_spelled_are_read()
+    ensures { SourcesSpelledAreRead }
+{}
+
+/// Tokens spell the blocks of one source at most.
+pub fn spellings_are_of_one_source()
+    ensures { SpellingsAreOfOneSource }
+{}
+
+/// A program that a text is loaded as is spelled by its tokens: they spell blocks without a fault, and these make the
+/// program.
+pub fn programs_loaded_are_spelled()
+    ensures { ProgramsLoadedAreSpelled }
+{}
+
+/// A text whose tokens spell a program is loaded as it, and as no other.
+pub fn programs_spelled_are_loaded()
+    ensures { ProgramsSpelledAreLoaded }
+{}
+
+/// The turns of a loop of reading never run out: with more of them than there are tokens left the reading is the same for
+/// any two answers that would stand at their end.
+pub fn bounds_are_never_met()
+    ensures { BoundsAreNeverMet }
+{}
+
+/// What is read as a number is spelled so: digits of its base, between which one `_` at a time may stand.
+pub fn numerals_read_are_spelled()
+    ensures { NumeralsReadAreSpelled }
+{}
+
+/// What is spelled as a number is read as it and as no other.
+pub fn numerals_spelled_are_read()
+    ensures { NumeralsSpelledAreRead }
+{}
+
+/// The constant that a literal is read as is spelled so: by a prefix of the table, and behind it by its value in digits, by a
+/// duration or by bits.
+pub fn literal_values_read_are_spelled()
+    ensures { LiteralValuesReadAreSpelled }
+{}
+
+/// What is spelled as a literal is one, and is read as its constant and as no other.
+pub fn literal_values_spelled_are_read()
+    ensures { LiteralValuesSpelledAreRead }
+{}
+
+/// The constant that a literal among the tokens of a text is read as is spelled by its bytes.
+pub fn literals_of_texts_are_spelled()
+    ensures { LiteralsOfTextsAreSpelled }
+{}
+
+/// An operation that takes operands in a form allows one that is written in it; and where operands of the form are stored as
+/// no others are, an operation that allows one takes the form.
+pub fn forms_are_of_their_operations()
+    ensures { FormsAreOfTheirOperations }
 {}
