@@ -1,6 +1,7 @@
 ghost use Rattle.std.specs.Prelude.{◌≤◌, length};
 
 use std::alloc::Global;
+use std::process::Abort;
 use std::test::Fail;
 use stl_decl::*;
 use stl_lex::{LoadFault, Tokens, tokens};
@@ -15,34 +16,65 @@ fn tokens_of(alloc: Global, text: &[u8]) -> Result<Tokens, Fail> {
     }
 }
 
+fn fault_text(alloc: Global, fault: LoadFault) -> Result<Vec<u8>, Fail> {
+    let kind = fault.kind;
+    let line = fault.line;
+    Ok(format!(in alloc; "!{kind} {line}")?.into_bytes())
+}
+
+fn push_place(alloc: Global, all: &mut Vec<u8>, name: &[u8], bit: u64) -> Result<(), Fail> {
+    let place = format!(in alloc; "@{bit} ")?;
+    all.extend_from_slice(name)?;
+    all.extend_from_slice(place.as_bytes())?;
+    Ok(())
+}
+
+fn push_size(alloc: Global, all: &mut Vec<u8>, size: u32, behind: u32) -> Result<(), Fail> {
+    let text = format!(in alloc; "={size} {behind}")?;
+    all.extend_from_slice(text.as_bytes())?;
+    Ok(())
+}
+
+fn places_of(alloc: Global, layout: &Layout, behind: u32) -> Result<Vec<u8>, Fail> {
+    let mut all = Vec::new(alloc);
+    for (name, variable) in layout.names().iter() {
+        push_place(alloc, &mut all, name.as_slice(), variable.first_bit)?;
+    }
+    push_size(alloc, &mut all, layout.size(), behind)?;
+    Ok(all)
+}
+
 /// The names with their first bits, and the size in bytes; or a fault as `!`, its kind and its line.
 fn shown(alloc: Global, text: &[u8]) -> Result<Vec<u8>, Fail> {
     let found = tokens_of(alloc, text)?;
     if found.as_slice().len() > 1_048_576 || text.len() > 1_048_576 {
         return Err(Fail::from("too long"));
     }
-    let mut all = Vec::new(alloc);
     match declarations(alloc, text, &found, 0) {
-        Ok((layout, behind)) => {
-            for (name, variable) in layout.names().iter() {
-                all.extend_from_slice(name.as_slice())?;
-                let bit = variable.first_bit;
-                all.extend_from_slice(format!(in alloc; "@{bit} ")?.as_bytes())?;
-            }
-            let size = layout.size();
-            all.extend_from_slice(format!(in alloc; "={size} {behind}")?.as_bytes())?;
-        }
-        Err(DeclError::Fault(fault)) => push_fault(alloc, &mut all, fault)?,
-        Err(DeclError::NoMemory) => return Err(Fail::from("no memory")),
+        Ok((layout, behind)) => places_of(alloc, &layout, behind),
+        Err(DeclError::Fault(fault)) => fault_text(alloc, fault),
+        Err(DeclError::NoMemory) => Err(Fail::from("no memory")),
     }
-    Ok(all)
 }
 
-fn push_fault(alloc: Global, all: &mut Vec<u8>, fault: LoadFault) -> Result<(), Fail> {
-    let kind = fault.kind;
-    let line = fault.line;
-    all.extend_from_slice(format!(in alloc; "!{kind} {line}")?.as_bytes())?;
+fn push_byte(alloc: Global, all: &mut Vec<u8>, byte: u8) -> Result<(), Fail> {
+    let text = format!(in alloc; "{byte:02X}")?;
+    all.extend_from_slice(text.as_bytes())?;
     Ok(())
+}
+
+fn bytes_of(alloc: Global, layout: &Layout) -> Result<Vec<u8>, Fail> {
+    if layout.size() > 65_536 {
+        return Err(Fail::from("too large"));
+    }
+    let Ok(bytes) = first_bytes(alloc, layout) else {
+        return Err(Fail::from("no memory"));
+    };
+    let mut all = Vec::new(alloc);
+    for byte in bytes.as_slice() {
+        push_byte(alloc, &mut all, *byte)?;
+    }
+    Ok(all)
 }
 
 /// The first bytes of a data block's STRUCT with its assignments, or a fault.
@@ -52,24 +84,11 @@ fn data(alloc: Global, text: &[u8]) -> Result<Vec<u8>, Fail> {
     if list.len() > 1_048_576 || text.len() > 1_048_576 {
         return Err(Fail::from("too long"));
     }
-    let mut all = Vec::new(alloc);
     match assigned(alloc, text, list) {
-        Ok(layout) => {
-            if layout.size() > 65_536 {
-                return Err(Fail::from("too large"));
-            }
-            let Ok(bytes) = first_bytes(alloc, &layout) else {
-                return Err(Fail::from("no memory"));
-            };
-            for byte in bytes.as_slice() {
-                let byte = *byte;
-                all.extend_from_slice(format!(in alloc; "{byte:02X}")?.as_bytes())?;
-            }
-        }
-        Err(StepError::Fault(fault)) => push_fault(alloc, &mut all, fault.told())?,
-        Err(StepError::NoMemory) => return Err(Fail::from("no memory")),
+        Ok(layout) => bytes_of(alloc, &layout),
+        Err(StepError::Fault(fault)) => fault_text(alloc, fault.told()),
+        Err(StepError::NoMemory) => Err(Fail::from("no memory")),
     }
-    Ok(all)
 }
 
 fn assigned(alloc: Global, text: &[u8], list: &[stl_lex::Token]) -> Result<Layout, StepError>
@@ -80,6 +99,34 @@ fn assigned(alloc: Global, text: &[u8], list: &[stl_lex::Token]) -> Result<Layou
     let (_, rest) = word_at(text, b"BEGIN", rest)?;
     let (layout, _) = assignments_at(alloc, text, list.len() + 1, layout, rest)?;
     Ok(layout)
+}
+
+/// What a text is read as.
+#[derive(Clone, Copy)]
+enum Part {
+    Declarations,
+    Data,
+}
+
+fn read_as(alloc: Global, part: Part, text: &[u8]) -> Result<Vec<u8>, Fail> {
+    match part {
+        Part::Declarations => shown(alloc, text),
+        Part::Data => data(alloc, text),
+    }
+}
+
+/// Each text is read as these places or bytes, or has this fault.
+fn assert_read(
+    rt: &impl Abort,
+    alloc: Global,
+    part: Part,
+    rows: &[(&[u8], &[u8])],
+) -> Result<(), Fail> {
+    for row in rows {
+        let (text, want) = *row;
+        assert_eq!(rt; read_as(alloc, part, text)?.as_slice(), want);
+    }
+    Ok(())
 }
 
 #[test]
@@ -112,10 +159,7 @@ fn places(rt: HostRuntime) -> Result<(), Fail> {
             b"A@0 B@131072 =16386 26",
         ),
     ];
-    for (text, want) in rows {
-        assert_eq!(rt; shown(rt.alloc(), text)?.as_slice(), want);
-    }
-    Ok(())
+    assert_read(&rt, rt.alloc(), Part::Declarations, &rows)
 }
 
 #[test]
@@ -178,10 +222,7 @@ fn faults(rt: HostRuntime) -> Result<(), Fail> {
         (b"STRUCT a:INT:=5;;", b"!11 1"),
         (b"STRUCT a:INT END_STRUCT\n;", b"!13 1"),
     ];
-    for (text, want) in rows {
-        assert_eq!(rt; shown(rt.alloc(), text)?.as_slice(), want);
-    }
-    Ok(())
+    assert_read(&rt, rt.alloc(), Part::Declarations, &rows)
 }
 
 #[test]
@@ -230,10 +271,18 @@ fn values(rt: HostRuntime) -> Result<(), Fail> {
         (b"STRUCT a:INT;END_STRUCT BEGIN a:=1;\n", b"!13 1"),
         (b"FB 1 BEGIN", b"!21 1"),
     ];
-    for (text, want) in rows {
-        assert_eq!(rt; data(rt.alloc(), text)?.as_slice(), want);
+    assert_read(&rt, rt.alloc(), Part::Data, &rows)
+}
+
+fn constant_of(alloc: Global, text: &[u8]) -> Result<Constant, Fail> {
+    let found = tokens_of(alloc, text)?;
+    if text.len() > 1_048_576 {
+        return Err(Fail::from("too long"));
     }
-    Ok(())
+    match value_at(text, found.as_slice()) {
+        Ok((read, _)) => Ok(read.constant),
+        Err(_) => Err(Fail::from("no value")),
+    }
 }
 
 #[test]
@@ -253,14 +302,7 @@ fn constants(rt: HostRuntime) -> Result<(), Fail> {
         (b"false", ConstantForm::Boolean, 0),
     ];
     for (text, form, value) in rows {
-        let found = tokens_of(rt.alloc(), text)?;
-        if text.len() > 1_048_576 {
-            return Err(Fail::from("too long"));
-        }
-        let Ok((read, _)) = value_at(text, found.as_slice()) else {
-            return Err(Fail::from("no value"));
-        };
-        assert_eq!(rt; read.constant, Constant { form, value });
+        assert_eq!(rt; constant_of(rt.alloc(), text)?, Constant { form, value });
     }
     Ok(())
 }

@@ -1,40 +1,54 @@
 use block_loader::*;
+use s7_base::{Blocks, CodeBlock, CodeKind, DataBlock};
 use std::alloc::Global;
 use std::test::Fail;
+
+fn push_code(alloc: Global, all: &mut Vec<u8>, code: &CodeBlock) -> Result<(), Fail> {
+    let kind = match code.kind() {
+        CodeKind::Ob => "OB",
+        CodeKind::Fb => "FB",
+        CodeKind::Fc => "FC",
+    };
+    let number = code.number();
+    let count = code.statements().len();
+    let text = format!(in alloc; "{kind} {number} {count}/")?;
+    all.extend_from_slice(text.as_bytes())?;
+    Ok(())
+}
+
+fn push_data(alloc: Global, all: &mut Vec<u8>, block: &DataBlock) -> Result<(), Fail> {
+    let number = block.number();
+    let count = block.bytes().len();
+    let text = format!(in alloc; "DB {number} {count}/")?;
+    all.extend_from_slice(text.as_bytes())?;
+    Ok(())
+}
+
+fn list_of(alloc: Global, blocks: &Blocks) -> Result<Vec<u8>, Fail> {
+    let mut all = Vec::new(alloc);
+    for code in blocks.codes() {
+        push_code(alloc, &mut all, code)?;
+    }
+    for block in blocks.data_blocks() {
+        push_data(alloc, &mut all, block)?;
+    }
+    Ok(all)
+}
 
 /// Each block as its kind, number and size, or a fault as `!`, its kind and its line.
 fn shown(alloc: Global, source: &[u8]) -> Result<Vec<u8>, Fail> {
     if source.len() > 1_048_576 {
         return Err(Fail::from("too long"));
     }
-    let mut all = Vec::new(alloc);
     match load(alloc, source) {
-        Ok(blocks) => {
-            for code in blocks.codes() {
-                let kind: &[u8] = match code.kind() {
-                    s7_base::CodeKind::Ob => b"OB",
-                    s7_base::CodeKind::Fb => b"FB",
-                    s7_base::CodeKind::Fc => b"FC",
-                };
-                all.extend_from_slice(kind)?;
-                let number = code.number();
-                let count = code.statements().len();
-                all.extend_from_slice(format!(in alloc; " {number} {count}/")?.as_bytes())?;
-            }
-            for block in blocks.data_blocks() {
-                let number = block.number();
-                let count = block.bytes().len();
-                all.extend_from_slice(format!(in alloc; "DB {number} {count}/")?.as_bytes())?;
-            }
-        }
+        Ok(blocks) => list_of(alloc, &blocks),
         Err(LoadError::Fault(fault)) => {
             let kind = fault.kind;
             let line = fault.line;
-            all.extend_from_slice(format!(in alloc; "!{kind} {line}")?.as_bytes())?;
+            Ok(format!(in alloc; "!{kind} {line}")?.into_bytes())
         }
-        Err(LoadError::NoMemory) => return Err(Fail::from("no memory")),
+        Err(LoadError::NoMemory) => Err(Fail::from("no memory")),
     }
-    Ok(all)
 }
 
 #[test]

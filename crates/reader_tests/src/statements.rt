@@ -1,5 +1,6 @@
 use s7_base::CodeKind;
 use std::alloc::Global;
+use std::process::Abort;
 use std::test::Fail;
 use stl_decl::{Layout, declarations};
 use stl_lex::tokens;
@@ -61,96 +62,108 @@ fn with_names(alloc: Global, text: &[u8]) -> Result<Vec<u32>, Fail> {
     shown(alloc, body(alloc, text, &found, from, CodeKind::Fc, &temps))
 }
 
+/// A body behind declarations of its own.
+fn behind_names(alloc: Global, names: &[u8], text: &[u8]) -> Result<Vec<u32>, Fail> {
+    let mut whole = names.to_vec(alloc)?;
+    whole.extend_from_slice(text)?;
+    with_names(alloc, whole.as_slice())
+}
+
 fn in_function(alloc: Global, statement: &[u8]) -> Result<Vec<u8>, Fail> {
     let mut text = statement.to_vec(alloc)?;
     text.extend_from_slice(b"; END_FUNCTION")?;
     Ok(text)
 }
 
-#[test]
-fn mnemonics_alone(rt: HostRuntime) -> Result<(), Fail> {
-    let rows: [(&[u8], u32); 71] = [
-        (b"O", 6),
-        (b"A(", 7),
-        (b"AN(", 8),
-        (b"O(", 9),
-        (b"ON(", 10),
-        (b"X(", 11),
-        (b"XN(", 12),
-        (b")", 13),
-        (b"NOT", 17),
-        (b"SET", 18),
-        (b"CLR", 19),
-        (b"SAVE", 20),
-        (b"MCRA", 23),
-        (b"MCRD", 24),
-        (b"MCR(", 25),
-        (b")MCR", 26),
-        (b"PUSH", 30),
-        (b"POP", 31),
-        (b"ENT", 32),
-        (b"LEAVE", 33),
-        (b"TAK", 34),
-        (b"CAW", 35),
-        (b"CAD", 36),
-        (b"+I", 40),
-        (b"-I", 41),
-        (b"*I", 42),
-        (b"/I", 43),
-        (b"+D", 44),
-        (b"-D", 45),
-        (b"*D", 46),
-        (b"/D", 47),
-        (b"MOD", 48),
-        (b"NEGI", 49),
-        (b"NEGD", 50),
-        (b"INVI", 51),
-        (b"INVD", 52),
-        (b"BTI", 53),
-        (b"ITB", 54),
-        (b"BTD", 55),
-        (b"DTB", 56),
-        (b"ITD", 57),
-        (b"==I", 58),
-        (b"<>I", 59),
-        (b">I", 60),
-        (b"<I", 61),
-        (b">=I", 62),
-        (b"<=I", 63),
-        (b"==D", 64),
-        (b"<>D", 65),
-        (b">D", 66),
-        (b"<D", 67),
-        (b">=D", 68),
-        (b"<=D", 69),
-        (b"AW", 70),
-        (b"OW", 71),
-        (b"XOW", 72),
-        (b"AD", 73),
-        (b"OD", 74),
-        (b"XOD", 75),
-        (b"SSI", 76),
-        (b"SLW", 77),
-        (b"SRW", 78),
-        (b"SSD", 79),
-        (b"SLD", 80),
-        (b"SRD", 81),
-        (b"RLD", 82),
-        (b"RRD", 83),
-        (b"CDB", 113),
-        (b"BE", 122),
-        (b"BEC", 123),
-        (b"BEU", 124),
-    ];
-    for (text, op) in rows {
-        let text = in_function(rt.alloc(), text)?;
-        let want = [op, 0, 0, 0, 0];
+/// Each statement is read as these fields.
+fn assert_rows(rt: &impl Abort, alloc: Global, rows: &[(&[u8], [u32; 5])]) -> Result<(), Fail> {
+    for row in rows {
+        let (text, want) = *row;
+        let text = in_function(alloc, text)?;
         assert_eq!(rt;
-            fields(rt.alloc(), CodeKind::Fc, text.as_slice())?.as_slice(),
+            fields(alloc, CodeKind::Fc, text.as_slice())?.as_slice(),
             want.as_slice()
         );
     }
     Ok(())
+}
+
+#[test]
+fn mnemonics_alone(rt: HostRuntime) -> Result<(), Fail> {
+    let rows: [(&[u8], [u32; 5]); 71] = [
+        (b"O", [6, 0, 0, 0, 0]),
+        (b"A(", [7, 0, 0, 0, 0]),
+        (b"AN(", [8, 0, 0, 0, 0]),
+        (b"O(", [9, 0, 0, 0, 0]),
+        (b"ON(", [10, 0, 0, 0, 0]),
+        (b"X(", [11, 0, 0, 0, 0]),
+        (b"XN(", [12, 0, 0, 0, 0]),
+        (b")", [13, 0, 0, 0, 0]),
+        (b"NOT", [17, 0, 0, 0, 0]),
+        (b"SET", [18, 0, 0, 0, 0]),
+        (b"CLR", [19, 0, 0, 0, 0]),
+        (b"SAVE", [20, 0, 0, 0, 0]),
+        (b"MCRA", [23, 0, 0, 0, 0]),
+        (b"MCRD", [24, 0, 0, 0, 0]),
+        (b"MCR(", [25, 0, 0, 0, 0]),
+        (b")MCR", [26, 0, 0, 0, 0]),
+        (b"PUSH", [30, 0, 0, 0, 0]),
+        (b"POP", [31, 0, 0, 0, 0]),
+        (b"ENT", [32, 0, 0, 0, 0]),
+        (b"LEAVE", [33, 0, 0, 0, 0]),
+        (b"TAK", [34, 0, 0, 0, 0]),
+        (b"CAW", [35, 0, 0, 0, 0]),
+        (b"CAD", [36, 0, 0, 0, 0]),
+        (b"+I", [40, 0, 0, 0, 0]),
+        (b"-I", [41, 0, 0, 0, 0]),
+        (b"*I", [42, 0, 0, 0, 0]),
+        (b"/I", [43, 0, 0, 0, 0]),
+        (b"+D", [44, 0, 0, 0, 0]),
+        (b"-D", [45, 0, 0, 0, 0]),
+        (b"*D", [46, 0, 0, 0, 0]),
+        (b"/D", [47, 0, 0, 0, 0]),
+        (b"MOD", [48, 0, 0, 0, 0]),
+        (b"NEGI", [49, 0, 0, 0, 0]),
+        (b"NEGD", [50, 0, 0, 0, 0]),
+        (b"INVI", [51, 0, 0, 0, 0]),
+        (b"INVD", [52, 0, 0, 0, 0]),
+        (b"BTI", [53, 0, 0, 0, 0]),
+        (b"ITB", [54, 0, 0, 0, 0]),
+        (b"BTD", [55, 0, 0, 0, 0]),
+        (b"DTB", [56, 0, 0, 0, 0]),
+        (b"ITD", [57, 0, 0, 0, 0]),
+        (b"==I", [58, 0, 0, 0, 0]),
+        (b"<>I", [59, 0, 0, 0, 0]),
+        (b">I", [60, 0, 0, 0, 0]),
+        (b"<I", [61, 0, 0, 0, 0]),
+        (b">=I", [62, 0, 0, 0, 0]),
+        (b"<=I", [63, 0, 0, 0, 0]),
+        (b"==D", [64, 0, 0, 0, 0]),
+        (b"<>D", [65, 0, 0, 0, 0]),
+        (b">D", [66, 0, 0, 0, 0]),
+        (b"<D", [67, 0, 0, 0, 0]),
+        (b">=D", [68, 0, 0, 0, 0]),
+        (b"<=D", [69, 0, 0, 0, 0]),
+        (b"AW", [70, 0, 0, 0, 0]),
+        (b"OW", [71, 0, 0, 0, 0]),
+        (b"XOW", [72, 0, 0, 0, 0]),
+        (b"AD", [73, 0, 0, 0, 0]),
+        (b"OD", [74, 0, 0, 0, 0]),
+        (b"XOD", [75, 0, 0, 0, 0]),
+        (b"SSI", [76, 0, 0, 0, 0]),
+        (b"SLW", [77, 0, 0, 0, 0]),
+        (b"SRW", [78, 0, 0, 0, 0]),
+        (b"SSD", [79, 0, 0, 0, 0]),
+        (b"SLD", [80, 0, 0, 0, 0]),
+        (b"SRD", [81, 0, 0, 0, 0]),
+        (b"RLD", [82, 0, 0, 0, 0]),
+        (b"RRD", [83, 0, 0, 0, 0]),
+        (b"CDB", [113, 0, 0, 0, 0]),
+        (b"BE", [122, 0, 0, 0, 0]),
+        (b"BEC", [123, 0, 0, 0, 0]),
+        (b"BEU", [124, 0, 0, 0, 0]),
+    ];
+    assert_rows(&rt, rt.alloc(), &rows)
 }
 
 #[test]
@@ -188,14 +201,7 @@ fn bits(rt: HostRuntime) -> Result<(), Fail> {
         (b"FP M 10.0", [21, 3, 0, 0, 10]),
         (b"FN DB1.DBX 0.7", [22, 5, 7, 1, 0]),
     ];
-    for (text, want) in rows {
-        let text = in_function(rt.alloc(), text)?;
-        assert_eq!(rt;
-            fields(rt.alloc(), CodeKind::Fc, text.as_slice())?.as_slice(),
-            want.as_slice()
-        );
-    }
-    Ok(())
+    assert_rows(&rt, rt.alloc(), &rows)
 }
 
 #[test]
@@ -278,14 +284,7 @@ fn values(rt: HostRuntime) -> Result<(), Fail> {
         (b"RLD 3", [82, 11, 0, 0, 3]),
         (b"RRD 4", [83, 11, 0, 0, 4]),
     ];
-    for (text, want) in rows {
-        let text = in_function(rt.alloc(), text)?;
-        assert_eq!(rt;
-            fields(rt.alloc(), CodeKind::Fc, text.as_slice())?.as_slice(),
-            want.as_slice()
-        );
-    }
-    Ok(())
+    assert_rows(&rt, rt.alloc(), &rows)
 }
 
 #[test]
@@ -332,14 +331,7 @@ fn jumps_timers_and_blocks(rt: HostRuntime) -> Result<(), Fail> {
         (b"NOP 1", [126, 11, 0, 0, 1]),
         (b"BLD 255", [127, 11, 0, 0, 255]),
     ];
-    for (text, want) in rows {
-        let text = in_function(rt.alloc(), text)?;
-        assert_eq!(rt;
-            fields(rt.alloc(), CodeKind::Fc, text.as_slice())?.as_slice(),
-            want.as_slice()
-        );
-    }
-    Ok(())
+    assert_rows(&rt, rt.alloc(), &rows)
 }
 
 /// The kind and the line of a fault.
@@ -349,6 +341,15 @@ fn fault_of(alloc: Global, text: &[u8]) -> Result<(u32, u32), Fail> {
         [1000, kind, line] => Ok((*kind, *line)),
         _ => Err(Fail::from("no fault")),
     }
+}
+
+/// Each body has this fault.
+fn assert_faults(rt: &impl Abort, alloc: Global, rows: &[(&[u8], (u32, u32))]) -> Result<(), Fail> {
+    for row in rows {
+        let (text, want) = *row;
+        assert_eq!(rt; fault_of(alloc, text)?, want);
+    }
+    Ok(())
 }
 
 #[test]
@@ -391,10 +392,7 @@ fn bits_at_fault(rt: HostRuntime) -> Result<(), Fail> {
         (b"A P#M0.0; END_FUNCTION", (21, 1)),
         (b"A I\n\"x\"; END_FUNCTION", (21, 2)),
     ];
-    for (text, want) in rows {
-        assert_eq!(rt; fault_of(rt.alloc(), text)?, want);
-    }
-    Ok(())
+    assert_faults(&rt, rt.alloc(), &rows)
 }
 
 #[test]
@@ -445,10 +443,7 @@ fn values_at_fault(rt: HostRuntime) -> Result<(), Fail> {
         (b"SLD 33; END_FUNCTION", (11, 1)),
         (b"RLD W#16#1; END_FUNCTION", (11, 1)),
     ];
-    for (text, want) in rows {
-        assert_eq!(rt; fault_of(rt.alloc(), text)?, want);
-    }
-    Ok(())
+    assert_faults(&rt, rt.alloc(), &rows)
 }
 
 #[test]
@@ -489,10 +484,7 @@ fn blocks_at_fault(rt: HostRuntime) -> Result<(), Fail> {
         (b"NOP; END_FUNCTION", (11, 1)),
         (b"BLD 256; END_FUNCTION", (11, 1)),
     ];
-    for (text, want) in rows {
-        assert_eq!(rt; fault_of(rt.alloc(), text)?, want);
-    }
-    Ok(())
+    assert_faults(&rt, rt.alloc(), &rows)
 }
 
 #[test]
@@ -527,10 +519,7 @@ fn operands_left_out(rt: HostRuntime) -> Result<(), Fail> {
         (b"AW\n#x;", (11, 2)),
         (b"A\n#x;", (12, 2)),
     ];
-    for (text, want) in rows {
-        assert_eq!(rt; fault_of(rt.alloc(), text)?, want);
-    }
-    Ok(())
+    assert_faults(&rt, rt.alloc(), &rows)
 }
 
 #[test]
@@ -579,10 +568,7 @@ fn statements_at_fault(rt: HostRuntime) -> Result<(), Fail> {
         (b"TRUNC;", (10, 1)),
         (b"sqrt;", (10, 1)),
     ];
-    for (text, want) in rows {
-        assert_eq!(rt; fault_of(rt.alloc(), text)?, want);
-    }
-    Ok(())
+    assert_faults(&rt, rt.alloc(), &rows)
 }
 
 /// An organisation block has 20 bytes of local data in any case, and each kind of block its own end word.
@@ -614,60 +600,63 @@ fn kinds_of_blocks(rt: HostRuntime) -> Result<(), Fail> {
     Ok(())
 }
 
+/// A body behind the first word of a text, the token behind it, and how many tokens there are.
+fn body_of(alloc: Global) -> Result<(Body, u32, usize), Fail> {
+    let text =
+        b"BEGIN NETWORK\nTITLE = one\nm001: JU end;\n M002:; NOP\n0; JL M001; network\nEND: END_FUNCTION FUNCTION";
+    let Ok(found) = tokens(alloc, text) else {
+        return Err(Fail::from("no tokens"));
+    };
+    let count = found.as_slice().len();
+    if count == 0 {
+        return Err(Fail::from("no token"));
+    }
+    let temps = Layout::new(alloc);
+    let Ok((read, behind)) = body(alloc, text, &found, 1, CodeKind::Fc, &temps) else {
+        return Err(Fail::from("a fault"));
+    };
+    Ok((read, behind, count))
+}
+
+fn assert_lines(rt: &impl Abort, read: &Body) {
+    let want = [(84, 3, 7), (125, 4, 9), (85, 5, 4)];
+    assert_eq!(rt; read.statements().len(), 3);
+    for (line, want) in read.statements().iter().zip(want) {
+        assert_eq!(rt; (line.statement.op, line.line, line.column), want);
+    }
+}
+
+fn label(name: [u8; 4], statement: u32, line: u32, column: u32) -> Label {
+    Label {
+        name,
+        statement,
+        line,
+        column,
+    }
+}
+
+fn jump(statement: u32, name: [u8; 4]) -> Jump {
+    Jump { statement, name }
+}
+
+fn assert_labels_and_jumps(rt: &impl Abort, read: &Body) {
+    let labels = [
+        label(*b"M001", 0, 3, 1),
+        label(*b"M002", 1, 4, 2),
+        label(*b"END\0", 3, 6, 1),
+    ];
+    assert_eq!(rt; read.labels(), labels.as_slice());
+    let jumps = [jump(0, *b"END\0"), jump(2, *b"M001")];
+    assert_eq!(rt; read.jumps(), jumps.as_slice());
+}
+
 /// Labels, jumps, lines and columns, headings, and the token behind the end word.
 #[test]
 fn lists(rt: HostRuntime) -> Result<(), Fail> {
-    let text =
-        b"BEGIN NETWORK\nTITLE = one\nm001: JU end;\n M002:; NOP\n0; JL M001; network\nEND: END_FUNCTION FUNCTION";
-    let Ok(found) = tokens(rt.alloc(), text) else {
-        return Err(Fail::from("no tokens"));
-    };
-    let temps = Layout::new(rt.alloc());
-    assert!(rt; found.as_slice().len() > 0);
-    let Ok((read, behind)) = body(rt.alloc(), text, &found, 1, CodeKind::Fc, &temps) else {
-        return Err(Fail::from("a fault"));
-    };
-    assert_eq!(rt; behind as usize + 1, found.as_slice().len());
-    let mut lines = Vec::new(rt.alloc());
-    for line in read.statements() {
-        lines.push((line.statement.op, line.line, line.column))?;
-    }
-    assert_eq!(rt;
-        lines.as_slice(),
-        [(84, 3, 7), (125, 4, 9), (85, 5, 4)].as_slice()
-    );
-    let labels = [
-        Label {
-            name: *b"M001",
-            statement: 0,
-            line: 3,
-            column: 1,
-        },
-        Label {
-            name: *b"M002",
-            statement: 1,
-            line: 4,
-            column: 2,
-        },
-        Label {
-            name: *b"END\0",
-            statement: 3,
-            line: 6,
-            column: 1,
-        },
-    ];
-    assert_eq!(rt; read.labels(), labels.as_slice());
-    let jumps = [
-        Jump {
-            statement: 0,
-            name: *b"END\0",
-        },
-        Jump {
-            statement: 2,
-            name: *b"M001",
-        },
-    ];
-    assert_eq!(rt; read.jumps(), jumps.as_slice());
+    let (read, behind, count) = body_of(rt.alloc())?;
+    assert_eq!(rt; behind as usize + 1, count);
+    assert_lines(&rt, &read);
+    assert_labels_and_jumps(&rt, &read);
     Ok(())
 }
 
@@ -714,9 +703,7 @@ fn named_locals(rt: HostRuntime) -> Result<(), Fail> {
         (b"L #e[1]\nNOP 0; END_FUNCTION", &[1000, 13, 1]),
     ];
     for (text, want) in rows {
-        let mut whole = names.to_vec(rt.alloc())?;
-        whole.extend_from_slice(text)?;
-        assert_eq!(rt; with_names(rt.alloc(), whole.as_slice())?.as_slice(), want);
+        assert_eq!(rt; behind_names(rt.alloc(), names, text)?.as_slice(), want);
     }
     Ok(())
 }

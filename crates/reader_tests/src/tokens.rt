@@ -1,4 +1,5 @@
 use std::alloc::Global;
+use std::process::Abort;
 use std::test::Fail;
 use stl_lex::{LexError, LoadFault, Token, TokenKind, tokens};
 
@@ -40,6 +41,15 @@ fn shown(alloc: Global, text: &[u8]) -> Result<Vec<u8>, Fail> {
         Err(LexError::NoMemory) => return Err(Fail::from("no memory")),
     }
     Ok(all)
+}
+
+/// Each text has these tokens, or this fault.
+fn assert_shown(rt: &impl Abort, alloc: Global, rows: &[(&[u8], &[u8])]) -> Result<(), Fail> {
+    for row in rows {
+        let (text, want) = *row;
+        assert_eq!(rt; shown(alloc, text)?.as_slice(), want);
+    }
+    Ok(())
 }
 
 #[test]
@@ -105,15 +115,12 @@ fn each_form(rt: HostRuntime) -> Result<(), Fail> {
         (b"//", b""),
         (b"\n\t \r\n", b""),
     ];
-    for (text, want) in rows {
-        assert_eq!(rt; shown(rt.alloc(), text)?.as_slice(), want);
-    }
-    Ok(())
+    assert_shown(&rt, rt.alloc(), &rows)
 }
 
 #[test]
 fn each_fault(rt: HostRuntime) -> Result<(), Fail> {
-    let rows: [(&[u8], &[u8]); 64] = [
+    let rows: [(&[u8], &[u8]); 68] = [
         (b"\n (* x", b"!4 2"),
         (b"(* x", b"!4 1"),
         (b"(*)", b"!4 1"),
@@ -178,105 +185,134 @@ fn each_fault(rt: HostRuntime) -> Result<(), Fail> {
         (b"A DW#16#100000000\n1x", b"!3 1"),
         (b"C#1000", b"!3 1"),
         (b"S5T#2H46M30S1MS", b"!3 1"),
+        (b"T#24D20H31M23S648MS", b"!3 1"),
+        (b"T#-24D20H31M23S649MS", b"!3 1"),
+        (b"T#9999999999999999999999D", b"!3 1"),
+        (b"5x (*", b"!2 1"),
     ];
-    for (text, want) in rows {
-        assert_eq!(rt; shown(rt.alloc(), text)?.as_slice(), want);
-    }
-    assert_eq!(rt;
-        shown(rt.alloc(), b"T#24D20H31M23S648MS")?.as_slice(),
-        b"!3 1".as_slice()
-    );
-    assert_eq!(rt;
-        shown(rt.alloc(), b"T#-24D20H31M23S649MS")?.as_slice(),
-        b"!3 1".as_slice()
-    );
-    assert_eq!(rt;
-        shown(rt.alloc(), b"T#9999999999999999999999D")?.as_slice(),
-        b"!3 1".as_slice()
-    );
-    assert_eq!(rt; shown(rt.alloc(), b"5x (*")?.as_slice(), b"!2 1".as_slice());
-    Ok(())
+    assert_shown(&rt, rt.alloc(), &rows)
 }
+
+/// A data block and an organisation block as an editor writes them.
+const SOURCE: &[u8] = b"\
+DATA_BLOCK DB 1
+TITLE =Recipe
+VERSION : 0.1
+
+  STRUCT
+   Count : INT  := 0;\t//parts
+   Limit : INT  := 5;
+  END_STRUCT ;
+BEGIN
+   Count := 0;
+   Limit := 5;
+END_DATA_BLOCK
+
+ORGANIZATION_BLOCK OB 1
+TITLE =Main program
+VERSION : 0.1
+
+VAR_TEMP
+  OB1_EV_CLASS : BYTE ;
+  OB1_SCAN_1 : BYTE ;
+  OB1_PRIORITY : BYTE ;
+  OB1_OB_NUMBR : BYTE ;
+  OB1_RESERVED_1 : BYTE ;
+  OB1_RESERVED_2 : BYTE ;
+  OB1_PREV_CYCLE : INT ;
+  OB1_MIN_CYCLE : INT ;
+  OB1_MAX_CYCLE : INT ;
+  OB1_DATE_TIME : DATE_AND_TIME ;
+END_VAR
+BEGIN
+NETWORK
+TITLE =Start and stop
+      A(    ;
+      O     I      0.0;
+      O     Q      0.0;
+      )     ;
+      AN    I      0.1;
+      =     Q      0.0;
+NETWORK
+TITLE =Count parts
+      A     I      0.2;
+      FP    M     10.0;
+      JNB   _001;
+      L     DB1.DBW    0;
+      L     1;
+      +I    ;
+      T     DB1.DBW    0;
+_001: NOP   0;
+      L     #OB1_PREV_CYCLE;
+      T     MW    20;
+END_ORGANIZATION_BLOCK
+";
+
+/// Its tokens.
+const SOURCE_TOKENS: &[u8] = b"\
+WDATA_BLOCK|WDB|N1|\
+TTITLE =Recipe|\
+WVERSION|S:|N0|S.|N1|\
+WSTRUCT|\
+WCount|S:|WINT|S:=|N0|S;|\
+WLimit|S:|WINT|S:=|N5|S;|\
+WEND_STRUCT|S;|\
+WBEGIN|\
+WCount|S:=|N0|S;|\
+WLimit|S:=|N5|S;|\
+WEND_DATA_BLOCK|\
+WORGANIZATION_BLOCK|WOB|N1|\
+TTITLE =Main program|\
+WVERSION|S:|N0|S.|N1|\
+WVAR_TEMP|\
+WOB1_EV_CLASS|S:|WBYTE|S;|\
+WOB1_SCAN_1|S:|WBYTE|S;|\
+WOB1_PRIORITY|S:|WBYTE|S;|\
+WOB1_OB_NUMBR|S:|WBYTE|S;|\
+WOB1_RESERVED_1|S:|WBYTE|S;|\
+WOB1_RESERVED_2|S:|WBYTE|S;|\
+WOB1_PREV_CYCLE|S:|WINT|S;|\
+WOB1_MIN_CYCLE|S:|WINT|S;|\
+WOB1_MAX_CYCLE|S:|WINT|S;|\
+WOB1_DATE_TIME|S:|WDATE_AND_TIME|S;|\
+WEND_VAR|\
+WBEGIN|\
+WNETWORK|\
+TTITLE =Start and stop|\
+WA|S(|S;|\
+WO|WI|N0|S.|N0|S;|\
+WO|WQ|N0|S.|N0|S;|\
+S)|S;|\
+WAN|WI|N0|S.|N1|S;|\
+S=|WQ|N0|S.|N0|S;|\
+WNETWORK|\
+TTITLE =Count parts|\
+WA|WI|N0|S.|N2|S;|\
+WFP|WM|N10|S.|N0|S;|\
+WJNB|W_001|S;|\
+WL|WDB1|S.|WDBW|N0|S;|\
+WL|N1|S;|\
+S+|WI|S;|\
+WT|WDB1|S.|WDBW|N0|S;|\
+W_001|S:|WNOP|N0|S;|\
+WL|L#OB1_PREV_CYCLE|S;|\
+WT|WMW|N20|S;|\
+WEND_ORGANIZATION_BLOCK|";
 
 #[test]
 fn a_source(rt: HostRuntime) -> Result<(), Fail> {
-    let lines: [(&[u8], &[u8]); 51] = [
-        (b"DATA_BLOCK DB 1", b"WDATA_BLOCK|WDB|N1|"),
-        (b"TITLE =Recipe", b"TTITLE =Recipe|"),
-        (b"VERSION : 0.1", b"WVERSION|S:|N0|S.|N1|"),
-        (b"", b""),
-        (b"  STRUCT", b"WSTRUCT|"),
-        (
-            b"   Count : INT  := 0;\t//parts",
-            b"WCount|S:|WINT|S:=|N0|S;|",
-        ),
-        (b"   Limit : INT  := 5;", b"WLimit|S:|WINT|S:=|N5|S;|"),
-        (b"  END_STRUCT ;", b"WEND_STRUCT|S;|"),
-        (b"BEGIN", b"WBEGIN|"),
-        (b"   Count := 0;", b"WCount|S:=|N0|S;|"),
-        (b"   Limit := 5;", b"WLimit|S:=|N5|S;|"),
-        (b"END_DATA_BLOCK", b"WEND_DATA_BLOCK|"),
-        (b"", b""),
-        (b"ORGANIZATION_BLOCK OB 1", b"WORGANIZATION_BLOCK|WOB|N1|"),
-        (b"TITLE =Main program", b"TTITLE =Main program|"),
-        (b"VERSION : 0.1", b"WVERSION|S:|N0|S.|N1|"),
-        (b"", b""),
-        (b"VAR_TEMP", b"WVAR_TEMP|"),
-        (b"  OB1_EV_CLASS : BYTE ;", b"WOB1_EV_CLASS|S:|WBYTE|S;|"),
-        (b"  OB1_SCAN_1 : BYTE ;", b"WOB1_SCAN_1|S:|WBYTE|S;|"),
-        (b"  OB1_PRIORITY : BYTE ;", b"WOB1_PRIORITY|S:|WBYTE|S;|"),
-        (b"  OB1_OB_NUMBR : BYTE ;", b"WOB1_OB_NUMBR|S:|WBYTE|S;|"),
-        (
-            b"  OB1_RESERVED_1 : BYTE ;",
-            b"WOB1_RESERVED_1|S:|WBYTE|S;|",
-        ),
-        (
-            b"  OB1_RESERVED_2 : BYTE ;",
-            b"WOB1_RESERVED_2|S:|WBYTE|S;|",
-        ),
-        (b"  OB1_PREV_CYCLE : INT ;", b"WOB1_PREV_CYCLE|S:|WINT|S;|"),
-        (b"  OB1_MIN_CYCLE : INT ;", b"WOB1_MIN_CYCLE|S:|WINT|S;|"),
-        (b"  OB1_MAX_CYCLE : INT ;", b"WOB1_MAX_CYCLE|S:|WINT|S;|"),
-        (
-            b"  OB1_DATE_TIME : DATE_AND_TIME ;",
-            b"WOB1_DATE_TIME|S:|WDATE_AND_TIME|S;|",
-        ),
-        (b"END_VAR", b"WEND_VAR|"),
-        (b"BEGIN", b"WBEGIN|"),
-        (b"NETWORK", b"WNETWORK|"),
-        (b"TITLE =Start and stop", b"TTITLE =Start and stop|"),
-        (b"      A(    ;", b"WA|S(|S;|"),
-        (b"      O     I      0.0;", b"WO|WI|N0|S.|N0|S;|"),
-        (b"      O     Q      0.0;", b"WO|WQ|N0|S.|N0|S;|"),
-        (b"      )     ;", b"S)|S;|"),
-        (b"      AN    I      0.1;", b"WAN|WI|N0|S.|N1|S;|"),
-        (b"      =     Q      0.0;", b"S=|WQ|N0|S.|N0|S;|"),
-        (b"NETWORK", b"WNETWORK|"),
-        (b"TITLE =Count parts", b"TTITLE =Count parts|"),
-        (b"      A     I      0.2;", b"WA|WI|N0|S.|N2|S;|"),
-        (b"      FP    M     10.0;", b"WFP|WM|N10|S.|N0|S;|"),
-        (b"      JNB   _001;", b"WJNB|W_001|S;|"),
-        (b"      L     DB1.DBW    0;", b"WL|WDB1|S.|WDBW|N0|S;|"),
-        (b"      L     1;", b"WL|N1|S;|"),
-        (b"      +I    ;", b"S+|WI|S;|"),
-        (b"      T     DB1.DBW    0;", b"WT|WDB1|S.|WDBW|N0|S;|"),
-        (b"_001: NOP   0;", b"W_001|S:|WNOP|N0|S;|"),
-        (b"      L     #OB1_PREV_CYCLE;", b"WL|L#OB1_PREV_CYCLE|S;|"),
-        (b"      T     MW    20;", b"WT|WMW|N20|S;|"),
-        (b"END_ORGANIZATION_BLOCK", b"WEND_ORGANIZATION_BLOCK|"),
-    ];
-    let mut text = Vec::new(rt.alloc());
-    let mut want = Vec::new(rt.alloc());
-    for (line, found) in lines {
-        text.extend_from_slice(line)?;
-        text.push(b'\n')?;
-        want.extend_from_slice(found)?;
-    }
-    assert_eq!(rt;
-        shown(rt.alloc(), text.as_slice())?.as_slice(),
-        want.as_slice()
-    );
+    assert_eq!(rt; shown(rt.alloc(), SOURCE)?.as_slice(), SOURCE_TOKENS);
     Ok(())
+}
+
+fn word(from: u32, to: u32, line: u32, column: u32) -> Token {
+    Token {
+        kind: TokenKind::Word,
+        from,
+        to,
+        line,
+        column,
+    }
 }
 
 #[test]
@@ -285,21 +321,8 @@ fn places(rt: HostRuntime) -> Result<(), Fail> {
     let Ok(found) = tokens(rt.alloc(), text) else {
         return Err(Fail::from("no tokens"));
     };
-    let want = [(0, 1, 1, 1), (11, 12, 3, 5), (13, 14, 3, 7)];
-    assert_eq!(rt; found.as_slice().len(), 3);
-    for (token, (from, to, line, column)) in found.as_slice().iter().zip(want) {
-        let kind = TokenKind::Word;
-        assert_eq!(rt;
-            *token,
-            Token {
-                kind,
-                from,
-                to,
-                line,
-                column
-            }
-        );
-    }
+    let want = [word(0, 1, 1, 1), word(11, 12, 3, 5), word(13, 14, 3, 7)];
+    assert_eq!(rt; found.as_slice(), want.as_slice());
     Ok(())
 }
 
