@@ -1,7 +1,7 @@
 -- Words that are spelled alike begin alike, and the code's groups are those of the instruction set.
 use Rattle.std.proofs.Common.{◌≡◌, ℕ, zero, suc, ◌+◌, ◌-◌, ◌*◌, ◌/◌, ◌%◌, ◌<◌, ◌≤◌, ◌==◌, ◌&&◌, List, [], ◌∷◌, Bool, true, false, cond, take, drop, refl, ap, sym, ◌∙◌, arith}
 use Rattle.std.specs.Prelude.{map, slice_index, nat_le, nat_lt, not}
-use Rattle.std.specs.List.{prefix_len, list_any, find, position}
+use Rattle.std.specs.List.{prefix_len}
 use Rattle.std.specs.Str.{bytes_eq}
 use Rattle.std.specs.Char.{to_ascii_lowercase}
 use Rattle.std.proofs.lemmas.Bool.{and_parts, false_from_ne_true, eq-eqb, eqb-true, leb-true}
@@ -12,11 +12,8 @@ use Rattle.instruction_set.specs.declared.table.InstructionRow.{InstructionRow}
 use Rattle.instruction_set.specs.InstructionSet.{instruction_set}
 use Rattle.stl_lex.specs.Bytes.{spells, letters_of}
 use Rattle.stl_reader.specs.declared.letters.TheConstants.{NUMBERS, STARTS}
-use Rattle.stl_reader.specs.declared.forms.OperandForm.{OperandForm}
-use Rattle.s7_base.specs.declared.statement.Statement.{Statement}
-use Rattle.stl_reader.specs.Forms.{accepts, may_be_alone, takes_operand}
-use Rattle.stl_reader.specs.Letters.{numbers_where, passes, are_alike, begins_like, numbers_like}
-use Rattle.stl_reader.specs.Searches.{row_spells, row_accepts, row_may_be_alone, row_takes_operand, row_allows}
+use Rattle.stl_reader.specs.Letters.{numbers_where, are_alike, begins_like, numbers_like}
+use Rattle.stl_reader.specs.Searches.{row_spells}
 
 -- a large letter and its small one
 lower_alike : (c : ℕ) → to_ascii_lowercase c % 32 ≡ c % 32

@@ -6,7 +6,7 @@ use Rattle.std.proofs.lemmas.Bool.{false_from_ne_true}
 use Rattle.std.proofs.lemmas.Iterator.Adapters.{position_from-zero}
 use Rattle.instruction_set.specs.declared.table.InstructionRow.{InstructionRow}
 use Rattle.instruction_set.specs.InstructionSet.{instruction_set}
-use Rattle.stl_reader.specs.Letters.{number_where, numbers_where, passes, read_at, begins_like, numbers_like}
+use Rattle.stl_reader.specs.Letters.{numbers_where, passes, read_at, begins_like, numbers_like}
 
 abbrev read_by : {A : Type 0} → (ℕ → Option A) → Option ℕ → Option A
 read_by at None = None
