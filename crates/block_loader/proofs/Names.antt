@@ -1,5 +1,5 @@
 -- A map of the names so far, and the labels so far.
-use Rattle.std.proofs.Common.{◌≡◌, ◌≤◌, ◌<◌, ℕ, suc, List, [], ◌∷◌, ◌++◌, ◌+◌, refl, subst, sym, ◌∙◌, Bool, true, false, cond, length, take, drop, get_or, add-one}
+use Rattle.std.proofs.Common.{◌≡◌, ◌≤◌, ◌<◌, ℕ, suc, List, [], ◌∷◌, ◌++◌, ◌+◌, refl, subst, sym, ◌∙◌, Bool, true, false, cond, length, take, drop, get_or, add-one, arith}
 use Rattle.std.proofs.Math.Seq.{drop-cons}
 use Rattle.std.proofs.lemmas.List.{take_more}
 use Rattle.std.proofs.Math.ListN.{drop_of_length-le}
@@ -7,6 +7,10 @@ use Rattle.std.specs.Prelude.{Option, Some, None}
 use Rattle.std.specs.List.{find, flat_map}
 use Rattle.std.specs.Option.{option_map, is_some}
 use Rattle.std.specs.Str.{bytes_eq}
+use Rattle.std.specs.Ordering.{nat_cmp, is_eq}
+use Rattle.std.specs.Cmp.Lexicographic.{slice_cmp}
+use Rattle.std.proofs.lemmas.Cmp.{same_from_slice_cmp}
+use Rattle.std.proofs.lemmas.Bool.Decides.{nat_tests}
 use Rattle.std.proofs.lemmas.Slice.Eq.{bytes_eq-Decides}
 use Rattle.stl_reader.specs.declared.items.BodyStatement.{BodyStatement}
 use Rattle.stl_reader.specs.declared.contents.Label.{Label}
@@ -14,6 +18,11 @@ use Rattle.stl_reader.specs.declared.contents.Jump.{Jump}
 use Rattle.stl_decl.specs.declared.fault.Fault.{Fault}
 use Rattle.block_loader.specs.declared.blocks.SourceCode.{SourceCode}
 use Rattle.block_loader.specs.Faults.{target, with_label, least_of, lesser, double_labels, double_label, jump_fault, jump_faults, code_faults}
+
+-- names that compare as equal are equal
+pub same_name : (a b : List ℕ) → is_eq (slice_cmp nat_cmp a b) ≡ bytes_eq a b
+same_name a b =
+    same_from_slice_cmp nat_cmp is_eq bytes_eq refl (λ y ys. refl) (λ x xs. refl) (λ x y xs ys o h. grind (arith, nat_tests)) a b (slice_cmp nat_cmp a b) refl
 
 -- what an index past the list gives
 abbrev pub no_label_there : Label

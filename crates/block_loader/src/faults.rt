@@ -1,17 +1,19 @@
 //! The faults of a whole source whose blocks have been read.
 ghost use Rattle.std.specs.Prelude.{◌≡◌, ◌<◌, ◌≤◌, ◌+◌, ◌^◌, [], ℕ, List, drop, IfOk, OnOk, None, Some};
-ghost use Rattle.std.specs.Str.{bytes_eq};
+ghost use Rattle.std.specs.Cmp.Lexicographic.{slice_cmp};
+ghost use Rattle.std.specs.Ordering.{nat_cmp};
 ghost use Rattle.std.specs.List.{flat_map, list_all};
-ghost use Rattle.indexmap.specs.IndexMap.{get};
+ghost use Rattle.std.specs.BTreeMap.{get};
 ghost use Rattle.s7_base.specs.Statements.{is_ju};
 ghost use Rattle.stl_decl.specs.declared.fault.Fault.{Fault};
 ghost use Rattle.block_loader.specs.Least.{IsLeast};
 ghost use Rattle.block_loader.specs.Faults.{is_before, lesser, least_of, target, with_label, double_label, double_labels, is_far, has_list, fault_at, landing_fault, label_fault, jump_fault, code_faults, inner_faults, kind_byte, name_of, line_of, column_of, total, counted, is_too_large, at_head, head_faults, missing, first_fault};
 
 use crate::blocks::{SourceBlock, SourceCode};
-use indexmap::{IndexMap, IndexSet};
+use indexmap::IndexSet;
 use s7_base::CodeKind;
 use std::alloc::{AllocError, AllocFailed, Global};
+use std::collections::BTreeMap;
 use stl_decl::{Fault, FaultKind};
 use stl_reader::{BodyStatement, Jump, Label};
 
@@ -52,12 +54,12 @@ fn lesser(found: Option<Fault>, fault: Fault) -> Option<Fault>
 /// Takes a label into the names, unless one of its name is there.
 #[tactic(auto, unfolding(crate::specs::Faults::least_of))]
 fn take_label(
-    names: &mut IndexMap<[u8; 4], u32>,
+    names: &mut BTreeMap<[u8; 4], u32>,
     label: Label,
     found: Option<Fault>,
 ) -> Result<Option<Fault>, AllocFailed<([u8; 4], u32)>>
-    ensures found { IfOk result (λ f. f ≡ least_of found (double_label (get bytes_eq names.old label.name) label)) }
-    ensures names { OnOk result ((k : List ℕ) → get bytes_eq names.new k ≡ with_label (get bytes_eq names.old k) k label) }
+    ensures found { IfOk result (λ f. f ≡ least_of found (double_label (get (slice_cmp nat_cmp) names.old label.name) label)) }
+    ensures names { OnOk result ((k : List ℕ) → get (slice_cmp nat_cmp) names.new k ≡ with_label (get (slice_cmp nat_cmp) names.old k) k label) }
 {
     let name = label.name;
     if names.contains_key(&name) {
@@ -80,11 +82,11 @@ pub(crate) fn labels_of(
     alloc: Global,
     labels: &[Label],
     found: Option<Fault>,
-) -> Result<(IndexMap<[u8; 4], u32>, Option<Fault>), AllocError>
-    ensures names { IfOk result (λ x. (k : List ℕ) → get bytes_eq x.0 k ≡ target labels.now k) }
+) -> Result<(BTreeMap<[u8; 4], u32>, Option<Fault>), AllocError>
+    ensures names { IfOk result (λ x. (k : List ℕ) → get (slice_cmp nat_cmp) x.0 k ≡ target labels.now k) }
     ensures found { IfOk result (λ x. x.1 ≡ least_of found (double_labels [] labels.now)) }
 {
-    let mut names = IndexMap::new(alloc);
+    let mut names = BTreeMap::new(alloc);
     let mut least = found;
     for label in labels {
         least = take_label(&mut names, *label, least)?;
@@ -195,12 +197,12 @@ fn take_jump(
 
 /// The least fault with those of the jumps.
 fn take_jumps(
-    names: &IndexMap<[u8; 4], u32>,
+    names: &BTreeMap<[u8; 4], u32>,
     statements: &[BodyStatement],
     jumps: &[Jump],
     found: Option<Fault>,
 ) -> Option<Fault>
-    ensures { result ≡ least_of found (flat_map (λ j. jump_fault statements.now (get bytes_eq names.now j.name) j) jumps.now) }
+    ensures { result ≡ least_of found (flat_map (λ j. jump_fault statements.now (get (slice_cmp nat_cmp) names.now j.name) j) jumps.now) }
 {
     let mut least = found;
     for jump in jumps {

@@ -1,8 +1,9 @@
 //! Loads a source: the blocks of its program, or its first fault.
 ghost use Rattle.std.specs.Prelude.{◌≡◌, ◌≤◌, length, map, All, None, IfOk, IfErr, OnOk};
 ghost use Rattle.std.specs.List.{fold, filter};
-ghost use Rattle.std.specs.Str.{bytes_eq};
-ghost use Rattle.indexmap.specs.IndexMap.{get};
+ghost use Rattle.std.specs.Cmp.Lexicographic.{slice_cmp};
+ghost use Rattle.std.specs.Ordering.{nat_cmp};
+ghost use Rattle.std.specs.BTreeMap.{get};
 ghost use Rattle.s7_base.specs.Limits.{IsWellFormed};
 ghost use Rattle.block_loader.specs.Told.{Gives};
 ghost use Rattle.block_loader.specs.Blocks.{items_of};
@@ -14,9 +15,9 @@ ghost use Rattle.block_loader.specs.Sound.{IsSoundBlock};
 use crate::blocks::{SourceBlock, SourceCode, SourceData, blocks_of};
 use crate::error::LoadError;
 use crate::faults::{first_fault, kind_byte, labels_of};
-use indexmap::IndexMap;
 use s7_base::{Blocks, CodeBlock, DataBlock, Statement};
 use std::alloc::{AllocFailed, Global};
+use std::collections::BTreeMap;
 use std::marker::Model;
 use stl_decl::{Layout, first_bytes};
 use stl_lex::tokens;
@@ -63,8 +64,8 @@ fn set_target(statements: &mut Vec<Statement>, jump: Jump, target: Option<u32>)
 }
 
 /// Gives all jumps their targets.
-fn set_targets(statements: &mut Vec<Statement>, names: &IndexMap<[u8; 4], u32>, jumps: &[Jump])
-    ensures { statements.new.items ≡ fold (landed_one (get bytes_eq names.now)) statements.old.items jumps.now }
+fn set_targets(statements: &mut Vec<Statement>, names: &BTreeMap<[u8; 4], u32>, jumps: &[Jump])
+    ensures { statements.new.items ≡ fold (landed_one (get (slice_cmp nat_cmp) names.now)) statements.old.items jumps.now }
 {
     for jump in jumps {
         let target = names.get(&jump.name).copied();

@@ -5,3 +5,5 @@ pub mod Leaves
 pub mod Arguments
 pub mod Consumes
 pub mod Enough
+pub mod Searches
+pub mod FirstLetters

@@ -12,3 +12,5 @@ pub mod Reading
 pub mod Sound
 pub mod OperandWords
 pub mod RefusedInstructions
+pub mod Letters
+pub mod Searches

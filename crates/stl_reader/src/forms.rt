@@ -1,8 +1,12 @@
 //! How operands are written, and which of these forms stand behind a mnemonic.
-ghost use Rattle.std.specs.Prelude.{◌≡◌};
+ghost use Rattle.std.specs.Prelude.{◌≡◌, slice_get};
+ghost use Rattle.std.specs.List.{list_any};
 ghost use Rattle.stl_reader.specs.Forms.{takes, takes_none, accepts, may_be_alone, takes_some, takes_operand};
+ghost use Rattle.stl_reader.specs.Letters.{passes};
+ghost use Rattle.stl_reader.specs.Searches.{row_accepts, row_may_be_alone, row_takes_operand};
 
-use instruction_set::{OperandKind, instruction_set};
+use crate::letters::{numbers_like, row_at};
+use instruction_set::{InstructionRow, OperandKind, instruction_set};
 
 /// How an operand is written.
 #[derive(Clone, Copy, Debug, PartialEq, Eq)]
@@ -129,32 +133,86 @@ fn takes_some(kind: OperandKind) -> bool
     !matches!(kind, OperandKind::Nothing)
 }
 
+/// Whether the row of this number has the mnemonic and takes an operand of this form.
+fn accepts_at(rows: &[InstructionRow], number: u8, mnemonic: [u8; 5], form: OperandForm) -> bool
+    ensures { result ≡ passes (row_accepts mnemonic form) (slice_get rows.now number) }
+{
+    match row_at(rows, number) {
+        Some(row) => row.mnemonic == mnemonic && takes(row.operand, form),
+        None => false,
+    }
+}
+
+/// Whether one of the rows of these numbers has the mnemonic and takes an operand of this form.
+fn any_accepts(
+    rows: &[InstructionRow],
+    numbers: &[u8],
+    mnemonic: [u8; 5],
+    form: OperandForm,
+) -> bool
+    ensures { result ≡ list_any (λ n. passes (row_accepts mnemonic form) (slice_get rows.now n)) numbers.now }
+{
+    numbers
+        .iter()
+        .any(|number| accepts_at(rows, *number, mnemonic, form))
+}
+
 /// Whether an operand of this form may stand behind the mnemonic.
-#[tactic(auto, unfolding(crate::specs::Forms::accepts))]
 pub fn accepts(mnemonic: [u8; 5], form: OperandForm) -> bool
     ensures { result ≡ accepts mnemonic form }
 {
-    instruction_set()
+    let numbers = numbers_like(mnemonic[0]);
+    any_accepts(instruction_set(), numbers, mnemonic, form)
+}
+
+/// Whether the row of this number has the mnemonic and may stand without an operand.
+fn may_be_alone_at(rows: &[InstructionRow], number: u8, mnemonic: [u8; 5]) -> bool
+    ensures { result ≡ passes (row_may_be_alone mnemonic) (slice_get rows.now number) }
+{
+    match row_at(rows, number) {
+        Some(row) => row.mnemonic == mnemonic && takes_none(row.operand),
+        None => false,
+    }
+}
+
+fn any_may_be_alone(rows: &[InstructionRow], numbers: &[u8], mnemonic: [u8; 5]) -> bool
+    ensures { result ≡ list_any (λ n. passes (row_may_be_alone mnemonic) (slice_get rows.now n)) numbers.now }
+{
+    numbers
         .iter()
-        .any(|row| row.mnemonic == mnemonic && takes(row.operand, form))
+        .any(|number| may_be_alone_at(rows, *number, mnemonic))
 }
 
 /// Whether the mnemonic may stand without an operand.
-#[tactic(auto, unfolding(crate::specs::Forms::may_be_alone))]
 pub fn may_be_alone(mnemonic: [u8; 5]) -> bool
     ensures { result ≡ may_be_alone mnemonic }
 {
-    instruction_set()
+    let numbers = numbers_like(mnemonic[0]);
+    any_may_be_alone(instruction_set(), numbers, mnemonic)
+}
+
+/// Whether the row of this number has the mnemonic and takes an operand.
+fn takes_operand_at(rows: &[InstructionRow], number: u8, mnemonic: [u8; 5]) -> bool
+    ensures { result ≡ passes (row_takes_operand mnemonic) (slice_get rows.now number) }
+{
+    match row_at(rows, number) {
+        Some(row) => row.mnemonic == mnemonic && takes_some(row.operand),
+        None => false,
+    }
+}
+
+fn any_takes_operand(rows: &[InstructionRow], numbers: &[u8], mnemonic: [u8; 5]) -> bool
+    ensures { result ≡ list_any (λ n. passes (row_takes_operand mnemonic) (slice_get rows.now n)) numbers.now }
+{
+    numbers
         .iter()
-        .any(|row| row.mnemonic == mnemonic && takes_none(row.operand))
+        .any(|number| takes_operand_at(rows, *number, mnemonic))
 }
 
 /// Whether an operand may stand behind the mnemonic.
-#[tactic(auto, unfolding(crate::specs::Forms::takes_operand))]
 pub fn takes_operand(mnemonic: [u8; 5]) -> bool
     ensures { result ≡ takes_operand mnemonic }
 {
-    instruction_set()
-        .iter()
-        .any(|row| row.mnemonic == mnemonic && takes_some(row.operand))
+    let numbers = numbers_like(mnemonic[0]);
+    any_takes_operand(instruction_set(), numbers, mnemonic)
 }

@@ -7,6 +7,7 @@ mod contents;
 mod forms;
 mod items;
 mod laws;
+mod letters;
 mod locals;
 mod mnemonics;
 mod operands;

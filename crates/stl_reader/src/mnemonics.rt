@@ -1,12 +1,16 @@
 //! Mnemonics: the longest run of adjacent tokens that is one.
-ghost use Rattle.std.specs.Prelude.{◌≡◌, ◌≤◌, length};
+ghost use Rattle.std.specs.Prelude.{◌≡◌, ◌≤◌, length, slice_get};
+ghost use Rattle.std.specs.List.{find};
 ghost use Rattle.std.specs.Option.{option_map};
 ghost use Rattle.stl_decl.specs.Steps.{Gives, seen, spelling};
+ghost use Rattle.stl_reader.specs.Letters.{passes};
+ghost use Rattle.stl_reader.specs.Searches.{row_spells};
 ghost use Rattle.stl_reader.specs.Mnemonics.{row_named, refused_named, refusal_by, meaning_of, pair_at, one_at, run_at, meant, mnemonic_at};
 
+use crate::letters::{first_letter, is_named, numbers_like, read_at, row_at};
 use instruction_set::{InstructionRow, instruction_set};
 use stl_decl::{Fault, FaultKind, end_fault, fault_at, next, spelling};
-use stl_lex::{Token, letters_of, spells};
+use stl_lex::Token;
 
 /// An instruction that is known and not of the language: its mnemonic, filled up with zeros, and its fault.
 #[derive(Clone, Copy, Debug, PartialEq, Eq)]
@@ -72,15 +76,33 @@ pub enum Meaning {
     Refused(FaultKind),
 }
 
+/// Whether the row of this number has the mnemonic.
+fn is_named_at(rows: &[InstructionRow], number: u8, word: &[u8]) -> bool
+    ensures { result ≡ passes (row_spells word.now) (slice_get rows.now number) }
+{
+    match row_at(rows, number) {
+        Some(row) => is_named(row.mnemonic.as_slice(), word),
+        None => false,
+    }
+}
+
+/// The first of these numbers whose row has the mnemonic.
+fn number_named(rows: &[InstructionRow], numbers: &[u8], word: &[u8]) -> Option<u8>
+    ensures { result ≡ find (λ n. passes (row_spells word.now) (slice_get rows.now n)) numbers.now }
+{
+    numbers
+        .iter()
+        .copied()
+        .find(|number| is_named_at(rows, *number, word))
+}
+
 /// The first row of the instruction set with the mnemonic.
-#[tactic(auto, unfolding(crate::specs::Mnemonics::row_named))]
 fn row_named(word: &[u8]) -> Option<InstructionRow>
     ensures { result ≡ row_named word.now }
 {
-    instruction_set()
-        .iter()
-        .copied()
-        .find(|row| spells(letters_of(row.mnemonic.as_slice()), word))
+    let rows = instruction_set();
+    let number = number_named(rows, numbers_like(first_letter(word)), word);
+    read_at(rows, number)
 }
 
 /// The row of an instruction that is refused.
@@ -91,7 +113,7 @@ fn refused_named(word: &[u8]) -> Option<RefusedInstruction>
     REFUSED
         .iter()
         .copied()
-        .find(|row| spells(letters_of(row.mnemonic.as_slice()), word))
+        .find(|row| is_named(row.mnemonic.as_slice(), word))
 }
 
 fn refusal_of(word: &[u8]) -> Option<Meaning>

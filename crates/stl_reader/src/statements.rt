@@ -1,6 +1,9 @@
 //! Statements: a mnemonic, its operand, and `;`.
-ghost use Rattle.std.specs.Prelude.{◌≡◌, ◌≤◌, ◌<◌, length, IfSome};
+ghost use Rattle.std.specs.Prelude.{◌≡◌, ◌≤◌, length, slice_get};
+ghost use Rattle.std.specs.List.{find};
 ghost use Rattle.stl_decl.specs.Steps.{Gives, GivesOr, seen};
+ghost use Rattle.stl_reader.specs.Letters.{passes};
+ghost use Rattle.stl_reader.specs.Searches.{row_allows};
 ghost use Rattle.stl_reader.specs.Statements.{is_number_next, is_bit_next, is_point_next, begins_word, begins_sign, begins_operand, fixed_operand, kind_operand, operand_at, wants_operand, argument_at, stored, operation_of, operation_at, first_of, closing_at, target_of, statement_at, parted};
 
 use crate::addresses::{CALL, NO_NAME, Operand, refused};
@@ -9,11 +12,12 @@ use crate::constants::{
     unsigned_operand,
 };
 use crate::forms::{may_be_alone, takes_operand};
+use crate::letters::{numbers_like, row_at};
 use crate::locals::local_operand;
 use crate::mnemonics::mnemonic_at;
 use crate::operands::{area_operand, data_number};
 use crate::words::{operand_word, status_sign};
-use instruction_set::{OperandArea, instruction_set};
+use instruction_set::{InstructionRow, OperandArea, instruction_set};
 use s7_base::Statement;
 use std::alloc::Global;
 use stl_decl::{
@@ -203,16 +207,43 @@ fn stored(op: u16, operand: Operand) -> Statement
     }
 }
 
+/// Whether the row of this number has the mnemonic and allows the operand of the statement.
+fn allows_at(
+    rows: &[InstructionRow],
+    number: u8,
+    mnemonic: [u8; 5],
+    locals: u32,
+    statement: Statement,
+) -> bool
+    ensures { result ≡ passes (row_allows mnemonic locals statement) (slice_get rows.now number) }
+{
+    match row_at(rows, number) {
+        Some(row) => row.mnemonic == mnemonic && statement.has_operand(row.operand, locals),
+        None => false,
+    }
+}
+
+/// The first of these numbers whose row has the mnemonic and allows the operand of the statement.
+fn number_allowing(
+    rows: &[InstructionRow],
+    numbers: &[u8],
+    mnemonic: [u8; 5],
+    locals: u32,
+    statement: Statement,
+) -> Option<u8>
+    ensures { result ≡ find (λ n. passes (row_allows mnemonic locals statement) (slice_get rows.now n)) numbers.now }
+{
+    numbers.iter().copied().find(|number| allows_at(rows, *number, mnemonic, locals, statement))
+}
+
 /// The number of the first operation with the mnemonic that allows the operand, in a block with so many bytes of
 /// local data.
-#[tactic(auto, unfolding(crate::specs::Statements::operation_of))]
-fn operation_of(mnemonic: [u8; 5], locals: u32, operand: Operand) -> Option<usize>
-    ensures exact { result ≡ operation_of mnemonic locals operand }
-    ensures within { IfSome result (λ n. n < 128) }
+fn operation_of(mnemonic: [u8; 5], locals: u32, operand: Operand) -> Option<u8>
+    ensures { result ≡ operation_of mnemonic locals operand }
 {
+    let numbers = numbers_like(mnemonic[0]);
     let statement = stored(0, operand);
-    instruction_set().iter().position(|row| row.mnemonic == mnemonic
-        && statement.has_operand(row.operand, locals))
+    number_allowing(instruction_set(), numbers, mnemonic, locals, statement)
 }
 
 /// The operation with this operand, whose first token is `first`.
@@ -225,7 +256,7 @@ fn operation_at(
     ensures { result ≡ operation_at mnemonic locals operand first }
 {
     match operation_of(mnemonic, locals, operand) {
-        Some(number) => Ok(number as u16),
+        Some(number) => Ok(u16::from(number)),
         None => Err(fault_at(FaultKind::BadOperand, first)),
     }
 }

@@ -3,8 +3,9 @@ ghost use Rattle.std.specs.Prelude.{◌≡◌};
 ghost use Rattle.stl_reader.specs.Words.{operand_word, status_sign};
 
 use crate::forms::OperandForm;
+use crate::letters::is_named;
 use instruction_set::OperandArea;
-use stl_lex::{letters_of, spells};
+use stl_lex::letters_of;
 
 /// A word that an operand begins with, filled up with zeros: the form of the operand, and its area; the stored
 /// unit of a byte, word or double word, and the value of an operand that has no number behind it.
@@ -120,7 +121,7 @@ pub fn operand_word(word: &[u8]) -> Option<OperandWord>
     OPERAND_WORDS
         .iter()
         .copied()
-        .find(|row| spells(letters_of(row.spelling.as_slice()), word))
+        .find(|row| is_named(row.spelling.as_slice(), word))
 }
 
 /// The row of a comparison sign.
