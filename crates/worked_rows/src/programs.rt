@@ -60,7 +60,7 @@ fn two(alloc: Global, first: &[u8], second: &[u8]) -> anyhow::Result<Vec<Vec<u8>
 /// Plays a program on side A alone, over files in memory.
 fn play_program(
     alloc: Global,
-    program: &Program,
+    program: &Program<'_>,
     sink: &mut MemSink,
 ) -> anyhow::Result<Option<Fault>> {
     let script = if program.script.is_empty() {
@@ -82,7 +82,8 @@ fn play_program(
 
 /// The lines that a trace has to end with, after the end of the line before them.
 fn lines_of(alloc: Global, trace: &str) -> anyhow::Result<Vec<u8>> {
-    let mut lines = b"\n".to_vec(alloc)?;
+    let mut lines = Vec::new(alloc);
+    lines.push(b'\n')?;
     for line in trace.split(" / ") {
         push_line(&mut lines, line)?;
     }
@@ -92,7 +93,7 @@ fn lines_of(alloc: Global, trace: &str) -> anyhow::Result<Vec<u8>> {
 /// Plays a program and compares the end of its trace; where it is another, shows the text and the line of a fault.
 fn show_program<R: Print + Alloc<A = Global>>(
     rt: &R,
-    program: &Program,
+    program: &Program<'_>,
     trace: &str,
 ) -> anyhow::Result<()> {
     let alloc = rt.alloc();
