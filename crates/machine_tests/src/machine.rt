@@ -139,7 +139,7 @@ fn machine_with(alloc: Global, statements: Vec<Statement>) -> Result<Machine, Fa
     let Some(blocks) = Blocks::of(vec![in alloc; main]?, Vec::new(alloc)) else {
         return Err("not well formed".into());
     };
-    if !blocks.is_playable() {
+    if !is_playable(&blocks) {
         return Err("not played".into());
     }
     let mut machine = Machine::new();

@@ -1,5 +1,5 @@
 ghost use Rattle.std.specs.Prelude.{IfOk, IfSome};
-ghost use Rattle.s7_base.specs.Blocks.{IsPlayable};
+ghost use Rattle.mc_machine.specs.Playable.{IsPlayable};
 
 use s7_base::{Answer, Area, Ask, Blocks, CodeBlock, CodeKind, DiagCode, Request};
 use std::alloc::Global;

@@ -2,5 +2,6 @@ pub mod BlockRuns
 pub mod EngineView
 pub mod Meaning
 pub mod Places
+pub mod Playable
 pub mod Rung
 pub mod Stands

@@ -7,7 +7,9 @@ mod engine;
 mod laws;
 mod levels;
 mod places;
+mod playable;
 
 pub use cpu::Machine;
 pub use laws::{a_block_runs_by_itself, a_place_means_its_turn};
+pub use playable::is_playable;
 pub use statement_effects::{Memory, Registers};

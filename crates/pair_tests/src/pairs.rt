@@ -1,5 +1,5 @@
 ghost use Rattle.std.specs.Prelude.{true, [], IfOk};
-ghost use Rattle.s7_base.specs.Blocks.{IsPlayable};
+ghost use Rattle.mc_machine.specs.Playable.{IsPlayable};
 ghost use Rattle.pair_core.specs.World.{part};
 ghost use Rattle.pair_core.specs.OwnParts.{first_part};
 ghost use Rattle.pair_core.specs.Places.{IsAt};

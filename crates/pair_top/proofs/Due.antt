@@ -1,7 +1,8 @@
 -- What a call that plays owes, from what it answers.
 use Rattle.std.proofs.Common.{◌≡◌, Option, Some, Result, Ok, Err, sym, ap, subst, ◌∙◌, arith}
 use Rattle.pair_io.specs.Causes.{Rose}
-use Rattle.s7_base.specs.Blocks.{Program, IsPlayable}
+use Rattle.s7_base.specs.Blocks.{Program}
+use Rattle.mc_machine.specs.Playable.{IsPlayable}
 use Rattle.stl_lex.specs.declared.fault.LoadFault.{LoadFault}
 use Rattle.block_loader.specs.Load.{meaning_of}
 use Rattle.pair_top.specs.declared.faults.Fault.{Fault}

@@ -3,7 +3,8 @@ use Rattle.std.specs.Prelude.{◌≡◌, ℕ, ◌<◌, ◌≤◌, List, length, 
 use Rattle.pair_io.specs.Causes.{Rose}
 use Rattle.pair_io.specs.declared.files.FilesError.{FilesError}
 use Rattle.pair_io.specs.declared.files.FilesError.TheVariants as unread
-use Rattle.s7_base.specs.Blocks.{Program, IsPlayable}
+use Rattle.s7_base.specs.Blocks.{Program}
+use Rattle.mc_machine.specs.Playable.{IsPlayable}
 use Rattle.stl_lex.specs.declared.fault.LoadFault.{LoadFault}
 use Rattle.block_loader.specs.Load.{meaning_of}
 use Rattle.pair_top.specs.declared.faults.Fault.{Fault}

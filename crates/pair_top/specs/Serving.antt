@@ -6,7 +6,8 @@ use Rattle.pair_io.specs.Causes.{Rose}
 use Rattle.s7_events.specs.declared.entry.Side.{Side}
 use Rattle.s7_events.specs.declared.entry.Side.TheVariants.{A, B}
 use Rattle.s7_events.specs.declared.entry.Entry.{Entry}
-use Rattle.s7_base.specs.Blocks.{Program, IsPlayable}
+use Rattle.s7_base.specs.Blocks.{Program}
+use Rattle.mc_machine.specs.Playable.{IsPlayable}
 use Rattle.pair_core.specs.declared.endings.Ended.{Ended}
 use Rattle.pair_core.specs.declared.endings.Ended.TheVariants.{NotPlayed}
 use Rattle.pair_top.specs.declared.faults.Fault.{Fault}

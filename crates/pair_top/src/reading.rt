@@ -1,7 +1,7 @@
 //! Reads the files of a command.
 ghost use Rattle.plant_script.specs.Plan.{first_alarm_or_job};
 ghost use Rattle.std.specs.Prelude.{◌≡◌, ℕ, List, None, IfOk, IfErr, OnOk};
-ghost use Rattle.s7_base.specs.Blocks.{IsPlayable};
+ghost use Rattle.mc_machine.specs.Playable.{IsPlayable};
 ghost use Rattle.pair_top.specs.Reading.{WasRead, IsLoaded, IsFaulty, IsAccepted, IsPlanned, IsNoSource, IsNoScript, IsUnread, IsRefused, UnreadCounts, CountsOnly};
 ghost use Rattle.pair_top.specs.Outside.{file_in};
 ghost use Rattle.pair_top.specs.Connecting.{IsConnected, HasBadEvents};
@@ -9,6 +9,7 @@ ghost use Rattle.pair_top.specs.Connecting.{IsConnected, HasBadEvents};
 use crate::errors::FileError;
 use block_loader::{LoadError, load};
 use ft_connection::{ConnError, play};
+use mc_machine::is_playable;
 use pair_io::{Files, FilesError};
 use plant_script::{Script, ScriptError, ScriptFault, read_script};
 use s7_base::Blocks;
@@ -71,7 +72,7 @@ pub fn read_blocks<F: Files>(
     ensures steady { IfErr result (λ error. (other : List ℕ) → CountsOnly error (file_in F.Files files.old files.new other)) }
 {
     let blocks = load_source(alloc, files, name)?;
-    if !blocks.is_playable() {
+    if !is_playable(&blocks) {
         return Err(FileError::Content(LoadFault {
             kind: NOT_BUILT,
             line: 0,

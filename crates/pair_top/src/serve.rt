@@ -1,6 +1,6 @@
 //! The top call.
 ghost use Rattle.std.specs.Prelude.{◌≡◌, ◌≤◌, ◌↔◌, ℕ, List, true, None, Some, IsNone, IfOk, IfErr, OnOk, OnErr};
-ghost use Rattle.s7_base.specs.Blocks.{IsPlayable};
+ghost use Rattle.mc_machine.specs.Playable.{IsPlayable};
 ghost use Rattle.plant_script.specs.Plan.{first_alarm_or_job};
 ghost use Rattle.subsystem.specs.Part.{IsNew, IsOpen};
 ghost use Rattle.trace_text.specs.declared.mode.Mode.{Mode};

@@ -5,7 +5,6 @@ mod allowed;
 mod blocks;
 mod jumps;
 mod limits;
-mod playable;
 mod statement;
 
 pub use allowed::is_data_number;

@@ -1,2 +1,2 @@
 pub mod Operands
-pub mod PlayedMeans
+pub mod SupportedMeans

@@ -1,9 +1,11 @@
--- Each operand that is allowed and is played is decoded, and is of a form that its kind allows.
+-- Each operand that is allowed and is supported is decoded, and is of a form that its kind allows.
 use Rattle.std.proofs.Common.{◌≡◌, ℕ, ◌+◌, ◌≤◌, Bool, true, false, ◌&&◌, ◌||◌, Option, Some, None, refl, subst, inl, inr, arith}
 use Rattle.std.specs.Prelude.{◌⊎◌, ◌==◌, is_some, nat_lt, nat_le}
 use Rattle.std.specs.Option.{option_map, option_or}
 use Rattle.std.proofs.lemmas.Bool.{both_ways, and_parts, or_cases, or_parts, eqb-true, ne_eqb, cases_eq, leb-true, lt-ltb, le-leb}
 use Rattle.s7_base.specs.declared.statement.Statement.{Statement}
+use Rattle.s7_base.specs.declared.blocks.BlockRef.{BlockRef}
+use Rattle.s7_base.specs.declared.blocks.CodeKind.TheVariants.{Fb, Fc}
 use Rattle.instruction_set.specs.declared.operation.Operation.{Operation}
 use Rattle.instruction_set.specs.declared.operands.OperandKind.{OperandKind}
 use Rattle.instruction_set.specs.declared.operands.OperandKind.TheVariants as kinds
@@ -11,7 +13,7 @@ use Rattle.instruction_set.specs.declared.operands.OperandArea.{OperandArea}
 use Rattle.instruction_set.specs.declared.operands.OperandArea.TheVariants as areas
 use Rattle.instruction_set.specs.Areas.{area_number}
 use Rattle.s7_base.specs.Operands.{is_in, is_data_number, ends_by, is_within, is_of_cpu, is_of_data, is_memory, is_bit, unit_bytes, is_value, is_peripheral, is_number, is_up_to, is_exactly, is_timer_or_counter, is_constant, is_about_data, allows}
-use Rattle.s7_base.specs.Blocks.{is_elsewhere}
+use Rattle.statement_effects.specs.Supported.{is_elsewhere}
 use Rattle.s7_events.specs.Optional.{◌>>=◌}
 use Rattle.statement_effects.specs.declared.instruction.ByteArea.TheVariants.{I, Q, M}
 use Rattle.statement_effects.specs.declared.instruction.Width.TheVariants as widths
@@ -25,9 +27,9 @@ use Rattle.statement_effects.specs.declared.instruction.StatusInstruction.TheVar
 use Rattle.statement_effects.specs.declared.instruction.Instruction.{Instruction}
 use Rattle.statement_effects.specs.declared.instruction.Instruction.TheVariants as groups
 use Rattle.statement_effects.specs.Decoding.{operand_of}
-use Rattle.statement_effects.specs.Reading.{bit_of, move_of, timer_of, timed_of, counter_of, status_check_of, with_word, with_double_word, with_target, means}
+use Rattle.statement_effects.specs.Reading.{bit_of, move_of, timer_of, timed_of, counter_of, status_check_of, with_word, with_double_word, with_target, with_block, means}
 
--- the operand is none of the places that are not played
+-- the operand is none of the places that are not supported
 pub record IsHere (s : Statement) : Type 0 where
   local : is_in areas.Local s ≡ false
   data_block : is_in areas.Data s ≡ false
@@ -80,7 +82,7 @@ within area size bytes s h =
     let parts = and_parts (is_in area s) (ends_by size bytes s) h in
     record { area = eqb-true s.area (area_number area) parts.0; fits = parts.1 }
 
--- bytes of memory that are played lie in the inputs, the outputs or the bit memory
+-- bytes of memory that are supported lie in the inputs, the outputs or the bit memory
 abbrev InMemory : ℕ → Statement → Type 0
 InMemory bytes s = IsIn 1 64 bytes s ⊎ (IsIn 2 64 bytes s ⊎ IsIn 3 1024 bytes s)
 
@@ -200,7 +202,7 @@ no_bit = bits.Area (record { area = I; at_byte = 0; bit = 0 })
 abbrev no_value : ValueOperand
 no_value = values.Area (record { area = I; at_byte = 0; width = widths.Byte })
 
--- with each form of operand that a kind allows, and is played
+-- with each form of operand that a kind allows, and is supported
 abbrev pub takes_all : OperandKind → Operation → Bool
 takes_all kinds.Nothing op = takes op operands.Nothing
 takes_all kinds.CheckedBit op =
@@ -222,6 +224,8 @@ takes_all kinds.Mask op = takes op operands.Nothing && takes op (operands.Double
 takes_all kinds.Target op = takes op (operands.Target 0)
 takes_all kinds.Timer op = takes op (operands.Timer 0)
 takes_all kinds.Counter op = takes op (operands.Counter 0)
+takes_all kinds.Function op = takes op (operands.Block (record { kind = Fc; number = 0 }))
+takes_all kinds.FunctionBlock op = takes op (operands.Block (record { kind = Fb; number = 0 }))
 takes_all _ op = false
 
 -- only the form of the operand decides --
@@ -265,6 +269,9 @@ double_any op n h = number_any (with_double_word op) n h
 
 target_any : (op : Operation) (n : ℕ) → takes op (operands.Target 0) ≡ true → takes op (operands.Target n) ≡ true
 target_any op n h = number_any (with_target op) n h
+
+block_any : (op : Operation) (callee other : BlockRef) → takes op (operands.Block callee) ≡ true → takes op (operands.Block other) ≡ true
+block_any op callee other h = some_map (λ (f : BlockRef → Instruction). f callee) (λ (f : BlockRef → Instruction). f other) (with_block op) h
 
 -- what is read --
 
@@ -321,6 +328,12 @@ double op s h a = rw a (double_any op s.value h)
 
 target : (op : Operation) (s : Statement) → takes op (operands.Target 0) ≡ true → s.area ≡ 13 → Reads op s
 target op s h a = rw a (target_any op s.value h)
+
+function : (op : Operation) (s : Statement) → takes op (operands.Block (record { kind = Fc; number = 0 })) ≡ true → IsNumber 16 255 s → Reads op s
+function op s h n = rw (n.area, n.fits) (block_any op (record { kind = Fc; number = 0 }) (record { kind = Fc; number = s.value }) h)
+
+function_block : (op : Operation) (s : Statement) → takes op (operands.Block (record { kind = Fb; number = 0 })) ≡ true → IsNumber 17 255 s → Reads op s
+function_block op s h n = rw (n.area, n.fits) (block_any op (record { kind = Fb; number = 0 }) (record { kind = Fb; number = s.value }) h)
 
 status_bit : (op : Operation) (s : Statement) → takes op (operands.Status 0) ≡ true → IsNumber 14 9 s → Reads op s
 status_bit op s h n = rw (n.area, n.fits) (status_any op s.value h)
@@ -450,7 +463,7 @@ reads kinds.Timer op locals s t out h = timer op s t (numbered areas.Timer 255 s
 reads kinds.Counter op locals s t out h = counter op s t (numbered areas.Counter 255 s h)
 reads kinds.DataBlock op locals s t out h = absurd cc
 reads kinds.InstanceBlock op locals s t out h = absurd cc
-reads kinds.Function op locals s t out h = absurd cc
-reads kinds.FunctionBlock op locals s t out h = absurd cc
+reads kinds.Function op locals s t out h = function op s t (numbered areas.Function 255 s h)
+reads kinds.FunctionBlock op locals s t out h = function_block op s t (numbered areas.FunctionBlock 255 s h)
 reads kinds.FunctionBlockWithData op locals s t out h = absurd cc
 reads (kinds.SystemFunction number) op locals s t out h = absurd cc

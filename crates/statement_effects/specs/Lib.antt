@@ -7,8 +7,8 @@ pub mod JumpEffect
 pub mod MoveEffect
 pub mod NumberEffect
 pub mod Placed
-pub mod Played
 pub mod Reading
 pub mod Resolving
 pub mod State
+pub mod Supported
 pub mod TimerEffect

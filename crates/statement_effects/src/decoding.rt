@@ -37,7 +37,7 @@ impl Width {
     }
 }
 
-fn is_in(s: &Statement, area: OperandArea) -> bool
+pub(crate) fn is_in(s: &Statement, area: OperandArea) -> bool
     ensures { result ≡ is_in area s.now }
 {
     s.area == area.number()

@@ -1,9 +1,9 @@
 //! A law of the definitions.
-ghost use Rattle.statement_effects.specs.Played.{PlayedMeans};
+ghost use Rattle.statement_effects.specs.Supported.{SupportedMeans};
 
-/// Each statement of the language that is played means an instruction, so that in a program that is played no statement
+/// Each statement of the language that is supported means an instruction, so that in a program that is supported no statement
 /// is passed over.
-#[tactic(auto, using(crate::proofs::PlayedMeans::played_means))]
-pub fn played_statements_mean_instructions()
-    ensures { PlayedMeans }
+#[tactic(auto, using(crate::proofs::SupportedMeans::supported_means))]
+pub fn supported_statements_mean_instructions()
+    ensures { SupportedMeans }
 {}

@@ -15,6 +15,7 @@ mod moves;
 mod numbers;
 mod reading;
 mod resolving;
+mod supported;
 
 pub use areas::{Memory, Registers};
 pub use decoded::{Decoded, DecodedBlock};
@@ -24,5 +25,6 @@ pub use instruction::{
     NumberInstruction, Operand, StatusInstruction, TimedOperation, TimerOperation, ValueOperand,
     ValuePlace, Width, WordInstruction,
 };
-pub use laws::played_statements_mean_instructions;
+pub use laws::supported_statements_mean_instructions;
 pub use reading::instruction_of;
+pub use supported::is_supported;

@@ -1,7 +1,8 @@
 //! One side of the pair.
 ghost use Rattle.std.specs.Prelude.{◌≡◌, ◌<◌, ◌≤◌, ◌+◌, ◌^◌, ◌∷◌, [], ◌++◌, ◌↔◌, ℕ, false, List, length, slice_get, None, OnOk, OnErr, IfOk, IsTrue};
 ghost use Rattle.std.specs.Option.{option_map};
-ghost use Rattle.s7_base.specs.Blocks.{Program, IsPlayable};
+ghost use Rattle.s7_base.specs.Blocks.{Program};
+ghost use Rattle.mc_machine.specs.Playable.{IsPlayable};
 ghost use Rattle.s7_events.specs.declared.entry.Answer.{Answer};
 ghost use Rattle.s7_events.specs.declared.entry.Request.{Request};
 ghost use Rattle.mc_machine.specs.Stands.{CanAsk, CanTake, IsDated, CanGoOn, IsAsked, IsIdle, WaitsAt, Stands, CpuWaits, CpuStopped, OfRunning, HasSizes, byte_of, counter_of, notes_of};

@@ -1,17 +1,20 @@
 //! Plays the worked rows and the examples. Each is a folder with the words of a command and the files that these name; the lists of
 //! the folders are the files `rows` and `examples`. Standard output is the text of each row, after a line with its name and before a
 //! line with its exit status and the line that the program prints on a fault. Of an example it says whether what was written is
-//! the text that stands beside it, whose name the list gives. Then come the refusals of an outside that has no capacity.
+//! the text that stands beside it, whose name the list gives. Then come small programs, of each of which it says whether its trace
+//! ends as was worked out by hand, and last the refusals of an outside that has no capacity.
 #![tactic(auto)]
 
 mod opener;
 mod playing;
+mod programs;
 mod refusals;
 
 use anyhow::Context;
 use opener::RowOpener;
 use pair_io::{MemSink, RealFiles, RealSink};
 use playing::{play, show_end};
+use programs::show_programs;
 use refusals::show_refusals;
 use std::alloc::Global;
 use std::rt::Files;
@@ -68,5 +71,6 @@ fn main(rt: HostRuntime) -> anyhow::Result<()> {
         let (folder, name) = example.split_once(' ').context("a folder and a file")?;
         show_example(&rt, folder, name)?;
     }
+    show_programs(&rt)?;
     show_refusals(&rt)
 }

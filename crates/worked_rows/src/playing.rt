@@ -12,7 +12,7 @@ use std::{fs, io, rt};
 use subsystem::Subsystem;
 
 /// The lines of a text, as words.
-fn words_of(alloc: Global, text: &str) -> anyhow::Result<Vec<Vec<u8>>> {
+pub fn words_of(alloc: Global, text: &str) -> anyhow::Result<Vec<Vec<u8>>> {
     let mut words = Vec::new(alloc);
     for line in text.lines() {
         words.push(line.as_bytes().to_vec(alloc)?)?;
@@ -21,7 +21,7 @@ fn words_of(alloc: Global, text: &str) -> anyhow::Result<Vec<Vec<u8>>> {
 }
 
 /// A side before a play.
-fn new_side(alloc: Global) -> anyhow::Result<Subsystem>
+pub fn new_side(alloc: Global) -> anyhow::Result<Subsystem>
     ensures { IfOk result IsNew }
 {
     Subsystem::new(alloc).ok().context("no memory")

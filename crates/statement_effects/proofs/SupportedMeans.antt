@@ -1,4 +1,4 @@
--- Each statement of the language that is played means an instruction.
+-- Each statement of the language that is supported means an instruction.
 use Rattle.std.proofs.Common.{◌≡◌, ℕ, zero, suc, Bool, true, false, not, ◌||◌, Some, List, [], ◌∷◌, inl, inr, refl}
 use Rattle.std.specs.Prelude.{slice_get, is_some}
 use Rattle.std.specs.List.{list_all}
@@ -8,35 +8,35 @@ use Rattle.instruction_set.specs.declared.table.InstructionRow.{InstructionRow}
 use Rattle.instruction_set.specs.InstructionSet.{instruction_set}
 use Rattle.instruction_set.specs.Rows.{row_of}
 use Rattle.s7_base.specs.Statements.{is_of_row, is_statement}
-use Rattle.s7_base.specs.Blocks.{is_elsewhere, is_call_operation, is_call_row, is_played}
+use Rattle.statement_effects.specs.Supported.{is_elsewhere, is_unsupported, is_unsupported_row, is_supported}
 use Rattle.statement_effects.specs.Reading.{read_row, instruction_of}
 use Rattle.statement_effects.proofs.Operands.{IsHere, is_here, takes_all, Reads, reads}
 
--- an operation that opens and calls no block takes each form of operand of its kind
+-- an operation that is supported takes each form of operand of its kind
 abbrev row_takes : InstructionRow → Bool
-row_takes row = is_call_operation row.operation || takes_all row.operand row.operation
+row_takes row = is_unsupported row.operation || takes_all row.operand row.operation
 
 rows_take : list_all row_takes instruction_set ≡ true
 rows_take = refl
 
-reads_row : (row : InstructionRow) (locals : ℕ) (s : Statement) → row_takes row ≡ true → IsHere s → is_of_row (Some row) locals s ≡ true → is_call_row (Some row) ≡ false
+reads_row : (row : InstructionRow) (locals : ℕ) (s : Statement) → row_takes row ≡ true → IsHere s → is_of_row (Some row) locals s ≡ true → is_unsupported_row (Some row) ≡ false
     → Reads row.operation s
 reads_row row locals s t out allowed plain =
-    elim (or_cases (is_call_operation row.operation) (takes_all row.operand row.operation) t) [
-      | inl call ↦ absurd (both_ways (is_call_operation row.operation) plain call)
+    elim (or_cases (is_unsupported row.operation) (takes_all row.operand row.operation) t) [
+      | inl no ↦ absurd (both_ways (is_unsupported row.operation) plain no)
       | inr takes ↦ reads row.operand row.operation locals s takes out allowed
     ]
 
 found : (rows : List InstructionRow) → list_all row_takes rows ≡ true → (n locals : ℕ) (s : Statement) → IsHere s → is_of_row (slice_get rows n) locals s ≡ true
-    → is_call_row (slice_get rows n) ≡ false → is_some (read_row (slice_get rows n) s) ≡ true
+    → is_unsupported_row (slice_get rows n) ≡ false → is_some (read_row (slice_get rows n) s) ≡ true
 found [] each n locals s out allowed plain = absurd cc
 found (row ∷ rows) each zero locals s out allowed plain = reads_row row locals s (and_parts (row_takes row) (list_all row_takes rows) each).0 out allowed plain
 found (row ∷ rows) each (suc n) locals s out allowed plain =
     found rows (and_parts (row_takes row) (list_all row_takes rows) each).1 n locals s out allowed plain
 
--- each statement of the language that is played means an instruction
-pub played_means : (locals : ℕ) (s : Statement) → is_statement locals s ≡ true → is_played s ≡ true → is_some (instruction_of s) ≡ true
+-- each statement of the language that is supported means an instruction
+pub supported_means : (locals : ℕ) (s : Statement) → is_statement locals s ≡ true → is_supported s ≡ true → is_some (instruction_of s) ≡ true
 unfolding row_of
-played_means locals s language played =
-    let parts = and_parts (not (is_elsewhere s)) (not (is_call_row (row_of s.op))) played in
-    found instruction_set rows_take s.op locals s (is_here s (not-true (is_elsewhere s) parts.0)) language (not-true (is_call_row (row_of s.op)) parts.1)
+supported_means locals s language supported =
+    let parts = and_parts (not (is_elsewhere s)) (not (is_unsupported_row (row_of s.op))) supported in
+    found instruction_set rows_take s.op locals s (is_here s (not-true (is_elsewhere s) parts.0)) language (not-true (is_unsupported_row (row_of s.op)) parts.1)
