@@ -362,6 +362,7 @@ impl Engine {
     }
 
     /// The statement that asked for the moment is completed by it, or fails.
+    #[tactic(auto, using(crate::proofs::Begun::same_begun))]
     fn time(&mut self, moment: u64)
         requires sound { IsSound (config_of self.old) }
         requires stored { IsStored self.old }
@@ -414,6 +415,7 @@ impl Engine {
     }
 
     /// OB1 begins over the input image.
+    #[tactic(auto, using(crate::proofs::Sound::no_level_at_inputs, crate::proofs::Sound::main_is_over))]
     fn begin_main(&mut self, image: [u8; 64])
         requires sound { IsSound (config_of self.old) }
         requires stored { IsStored self.old }
@@ -553,6 +555,7 @@ impl Engine {
 
     /// A statement failed: a diagnostic entry is made, and its error OB begins, or the CPU asks to stop. How many
     /// statements were completed is left as it was.
+    #[tactic(auto, using(crate::proofs::Begun::has_level))]
     fn fail(&mut self, error: u8, spot: BlockSpot) -> Option<Request>
         requires sound { IsSound (config_of self.old) }
         requires stored { IsStored self.old }
@@ -612,6 +615,7 @@ impl Engine {
     }
 
     /// A block is called. The statement is completed where it begins, or where it is not loaded and the error OB begins.
+    #[tactic(auto, using(crate::proofs::Begun::has_level))]
     fn call(&mut self, callee: BlockRef, spot: BlockSpot)
         requires sound { IsSound (config_of self.old) }
         requires stored { IsStored self.old }

@@ -1,6 +1,6 @@
 -- No statement begins or ends a block.
-use Rattle.std.proofs.Common.{◌≡◌, ℕ, Bool, true, false, List, Result, Ok, Err, Option, Some, None, refl, ap}
-use Rattle.std.specs.Prelude.{◌+◌, ◌&&◌, not, nat_le, length, if◌then◌else◌}
+use Rattle.std.proofs.Common.{◌≡◌, ℕ, Bool, true, false, List, Result, Ok, Err, refl}
+use Rattle.std.specs.Prelude.{◌+◌, ◌%◌, ◌&&◌, not, nat_le, length, if◌then◌else◌}
 use Rattle.std.proofs.lemmas.Bool.{cond_both}
 use Rattle.instruction_set.specs.declared.operation.BitWrite.TheVariants as writes
 use Rattle.s5_time.specs.Bcd.{is_bcd}
@@ -35,7 +35,7 @@ use Rattle.statement_effects.specs.MoveEffect.{effect_move, effect_direct, trans
 use Rattle.statement_effects.specs.NumberEffect.{effect_number}
 use Rattle.statement_effects.specs.TimerEffect.{timer_at, effect_start, effect_timed}
 use Rattle.statement_effects.specs.CounterEffect.{counter_at, effect_set, effect_counter}
-use Rattle.statement_effects.specs.Effect.{onward, onward_with, effect, effect_if}
+use Rattle.statement_effects.specs.Effect.{onward, onward_with, effect}
 
 -- as many blocks have begun as before
 abbrev Begun : Memory → Memory → Type 0
@@ -141,7 +141,3 @@ effect_begun (groups.CallWhenSet callee) m = refl
 effect_begun groups.End m = refl
 effect_begun groups.EndWhenSet m = refl
 effect_begun groups.Nothing m = refl
-
-pub statement_begun : (i : Option Instruction) (m : Memory) → Begun m (effect_if i m).0
-statement_begun None m = refl
-statement_begun (Some i) m = effect_begun i m

@@ -23,7 +23,7 @@ reads_row : (row : InstructionRow) (locals : ℕ) (s : Statement) → row_takes 
     → Reads row.operation s
 reads_row row locals s t small out allowed plain =
     elim (or_cases (is_unsupported row.operation) (takes_all row.operand row.operation) t) [
-      | inl no ↦ absurd (both_ways (is_unsupported row.operation) plain no)
+      | inl left_out ↦ absurd (both_ways (is_unsupported row.operation) plain left_out)
       | inr takes ↦ reads row.operand row.operation locals s takes small out allowed
     ]
 

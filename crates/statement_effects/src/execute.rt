@@ -55,7 +55,6 @@ impl Memory {
         Flow::Next
     }
 
-    #[tactic(auto, using(crate::proofs::Counts::statement_begun))]
     /// Does what a decoded statement does, and returns where it leads. A statement that needs the moment changes nothing yet.
     pub fn perform(&mut self, statement: &Decoded) -> Flow
         ensures effect { effect_if statement.now self.old ≡ (self.new, result) }
