@@ -68,7 +68,7 @@ same_begun n (a ∷ []) [] e begun = absurd cc
 same_begun n (a ∷ []) (b ∷ []) e begun =
     let same : length b.frames ≡ length a.frames = cc in (begun.0 ∙ sym same, begun.1)
 same_begun n (a ∷ []) (b ∷ c ∷ bs) e begun = absurd cc
-same_begun n (a ∷ x ∷ as) bs e begun = absurd begun
+same_begun n (a ∷ x ∷ rest) bs e begun = absurd begun
 
 -- OB1 begins where no other block has
 pub main_over : (n : ℕ) (levels : List LevelState) → n ≡ 0 → AreBegun 1 levels → AreBegun (n + 1) levels
