@@ -6,10 +6,11 @@ ghost use Rattle.s7_base.specs.declared.blocks.BlockRef.{BlockRef};
 ghost use Rattle.mc_machine.specs.Meaning.{error_registers, fails, begun, calls, turn_of, flows, jump_among, cycle_length, cycles_after, answered, takes, stops_cpu, begins_main, lost_note, again_mode, again, resumed, timed_at, Leaves, Waits, std, request_of, stop_request};
 ghost use Rattle.mc_machine.specs.Stands.{Running, state_of, newest, with_newest, StandsFor, IsMoved, IsTurned, halts_with, Reacts, Follows, register_head, register_bytes, IsHigh, AreStacked, AreBegun, IsSound, IsValid, IsAskedAt, AsksAt, Keeps, IsTaken, IsDated, IsAsked, GoesOn};
 ghost use Rattle.mc_machine.specs.Places.{AtInputs, Over, At, Fresh};
-ghost use Rattle.mc_machine.specs.EngineView.{level_in, mode_of, place_of, frame_of, config_of, running_of, decoded_codes, gone_to, IsCode, IsIndexed, AreIndexed, IsStored};
+ghost use Rattle.mc_machine.specs.EngineView.{level_in, mode_of, place_of, frame_of, config_of, running_of, decoded_codes, gone_to, IsCode, IsIndexed, AreIndexed, AreFound, IsStored};
 ghost use Rattle.s7_events.specs.declared.entry.Ask.{Ask};
 
-use crate::codes::{code_index, decoded_at, end_of, instruction_in};
+use crate::codes::{decoded_at, end_of, instruction_in};
+use crate::index::CodeIndex;
 use crate::levels::{
     call_registers, enter_block, enter_error_ob, enter_main, error_ob, error_registers, ob,
     restored,
@@ -31,6 +32,8 @@ pub struct Engine {
     program: Blocks,
     /// The code blocks of the program, decoded.
     decoded: Vec<DecodedBlock>,
+    /// Where each of them stands.
+    index: CodeIndex,
     memory: Memory,
     since: u16,
     at: u64,
@@ -148,9 +151,11 @@ impl Engine {
             moment: 0,
             code: DiagCode::Start,
         });
+        let index = CodeIndex::of(program.codes());
         Engine {
             program,
             decoded,
+            index,
             memory: Memory::start(),
             since: 0,
             at: 0,
@@ -427,7 +432,7 @@ impl Engine {
     {
         self.memory.set_inputs(image);
         self.memory.set_registers(Registers::clear());
-        if let Err(code) = enter_main(&self.program, &mut self.memory) {
+        if let Err(code) = enter_main(&self.program, &self.index, &mut self.memory) {
             self.spot = Spot::AtStop(code);
             return;
         }
@@ -570,7 +575,7 @@ impl Engine {
         ensures waits { self.new.waits ≡ self.old.waits }
     {
         let registers = self.memory.registers();
-        match enter_error_ob(&self.program, &mut self.memory, spot.level, error) {
+        match enter_error_ob(&self.program, &self.index, &mut self.memory, spot.level, error) {
             Ok(()) => {
                 let frame = Frame {
                     spot: at_statement(spot, spot.at + 1),
@@ -628,7 +633,7 @@ impl Engine {
         ensures sound { IsSound (config_of self.new) }
         ensures stored { IsStored self.new }
     {
-        let Some(code) = self.program.code(callee.kind, callee.number) else {
+        let Some(code) = self.index.code(&self.program, callee) else {
             return self.fail_statement(NOT_LOADED, spot);
         };
         match enter_block(&mut self.memory, callee, code) {
@@ -694,12 +699,13 @@ impl Engine {
         requires frames { AreIndexed self.old.program self.old.frames.items }
         requires indexed { IsIndexed self.old.program frame.spot }
         requires decoded { self.old.decoded.items ≡ decoded_codes self.old.program.codes }
+        requires found { AreFound self.old.program.codes self.old.index }
         ensures moved { config_of self.new ≡ record (config_of self.old) { place = At block 0 (level_in level) Fresh; frames = (config_of self.old).frames ++ frame_of frame ∷ [] } }
         ensures sound { IsSound (config_of self.new) }
         ensures stored { IsStored self.new }
         ensures waits { self.new.waits ≡ self.old.waits }
     {
-        let code = code_index(&self.program, block);
+        let code = self.index.find(block);
         self.frames.push(frame);
         self.spot = Spot::At(BlockSpot {
             block,

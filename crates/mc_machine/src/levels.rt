@@ -3,8 +3,9 @@ ghost use Rattle.std.specs.Prelude.{◌≡◌, ◌<◌, [], length, Ok, Err, OnO
 ghost use Rattle.s7_base.specs.declared.blocks.CodeKind.{CodeKind};
 ghost use Rattle.mc_machine.specs.Meaning.{local_bytes_of, stop_of, block_entered, main_entered, error_ob, no_error_ob, error_entered, error_registers, call_registers, restored};
 ghost use Rattle.mc_machine.specs.Stands.{AreBegun, IsDeeper};
-ghost use Rattle.mc_machine.specs.EngineView.{level_in, kept_of};
+ghost use Rattle.mc_machine.specs.EngineView.{level_in, kept_of, AreFound};
 
+use crate::index::CodeIndex;
 use crate::places::{Frame, Level, Returns};
 use bit_unit::BitUnit;
 use s7_base::{BlockRef, Blocks, CodeBlock, CodeKind, StopCode};
@@ -54,14 +55,19 @@ pub fn enter_block(memory: &mut Memory, block: BlockRef, code: &CodeBlock) -> Re
 /// # Errors
 /// The stop where it has no local data. Nothing changes.
 #[tactic(auto, using(crate::proofs::Begun::main_begins))]
-pub fn enter_main(program: &Blocks, memory: &mut Memory) -> Result<(), StopCode>
-    requires { memory.old.levels ≡ [] }
+pub fn enter_main(
+    program: &Blocks,
+    index: &CodeIndex,
+    memory: &mut Memory,
+) -> Result<(), StopCode>
+    requires found { AreFound program.now.codes index.now }
+    requires idle { memory.old.levels ≡ [] }
     ensures ok { OnOk result (main_entered program.now memory.old ≡ Ok memory.new) }
     ensures begun { OnOk result (AreBegun 1 memory.new.levels) }
     ensures err { IfErr result (λ stop. main_entered program.now memory.old ≡ Err stop) }
     ensures same { OnErr result (memory.new ≡ memory.old) }
 {
-    let bytes = match program.code(CodeKind::Ob, 1) {
+    let bytes = match index.code(program, ob(1)) {
         Some(code) => local_bytes(code),
         None => 0,
     };
@@ -105,11 +111,13 @@ fn no_error_ob(error: u8) -> StopCode
 /// The stop where it cannot begin. Nothing changes.
 pub fn enter_error_ob(
     program: &Blocks,
+    index: &CodeIndex,
     memory: &mut Memory,
     level: Level,
     error: u8,
 ) -> Result<(), StopCode>
-    requires { 0 < length memory.old.levels }
+    requires found { AreFound program.now.codes index.now }
+    requires level { 0 < length memory.old.levels }
     ensures ok { OnOk result (error_entered program.now (level_in level) memory.old error ≡ Ok memory.new) }
     ensures deeper { OnOk result (IsDeeper memory.old.levels memory.new.levels) }
     ensures err { IfErr result (λ stop. error_entered program.now (level_in level) memory.old error ≡ Err stop) }
@@ -119,7 +127,7 @@ pub fn enter_error_ob(
         return Err(StopCode::InError);
     }
     let block = ob(error_ob(error));
-    let Some(code) = program.code(block.kind, block.number) else {
+    let Some(code) = index.code(program, block) else {
         return Err(no_error_ob(error));
     };
     enter_block(memory, block, code)

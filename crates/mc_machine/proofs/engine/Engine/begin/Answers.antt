@@ -17,7 +17,8 @@ returns-clause-sound c =
 
 pub returns-clause-stored : goal.returns-clause-stored
 returns-clause-stored c = record {
-  here = c.code_index-code.ensures;
+  here = c.find-code.ensures c.args.self.now.program.codes c.requires.found;
   later = indexed_push c.args.self.now.program _ _ c.args.frame c.push.ensures.items c.requires.frames c.requires.indexed;
   decoded = c.requires.decoded;
+  found = c.requires.found;
 }

@@ -22,7 +22,7 @@ returns-clause-sound c =
 pub returns-clause-stored : goal.returns-clause-stored
 returns-clause-stored c =
     let popped = indexed_pop c.args.self.now.program _ _ c.in-Some.frame c.in-Some.ensures.items c.requires.stored.later in
-    record { here = popped.1; later = popped.0; decoded = c.requires.stored.decoded }
+    record { here = popped.1; later = popped.0; decoded = c.requires.stored.decoded; found = c.requires.stored.found }
 
 pub end_block-requires : goal.end_block-requires
 end_block-requires c = runs_block _ c.args.self.now.memory.levels c.requires.sound.begun c.requires.some
