@@ -1,4 +1,5 @@
 pub mod CallerLaw
+pub mod Counts
 pub mod Frames
 pub mod Last
 pub mod ReadBack

@@ -1,5 +1,5 @@
 -- What contracts see of the levels of a CPU.
-use Rattle.std.specs.Prelude.{ℕ, ◌-◌, List, [], ◌∷◌, ◌++◌, length, take, replicate, sum_by, slice_get, Option, Some, None}
+use Rattle.std.specs.Prelude.{ℕ, ◌-◌, ◌==◌, List, [], ◌∷◌, ◌++◌, length, map, take, replicate, sum_by, slice_get, Option, Some, None, if◌then◌else◌}
 use Rattle.std.specs.Int.{bytes_high_first}
 use Rattle.s7_base.specs.declared.blocks.BlockRef.{BlockRef}
 use Rattle.level_stack.specs.Values.{overwritten}
@@ -73,6 +73,18 @@ running_frames levels = frames_of (last_of levels)
 -- the local bytes of the block that runs
 abbrev pub running_locals : List LevelState → List ℕ
 running_locals levels = top_locals (running_frames levels)
+
+-- without the level that runs, where no block has begun on it
+abbrev pub without_empty : List LevelState → List LevelState
+without_empty levels = if length (running_frames levels) == 0 then without_last levels else levels
+
+-- the block that runs has ended, and where it was the last one of its level, the level too
+abbrev pub ended : List LevelState → List LevelState
+ended levels = without_empty (with_last left levels)
+
+-- how many blocks have begun on each level
+abbrev pub block_counts : List LevelState → List ℕ
+block_counts levels = map (λ (level : LevelState). length level.frames) levels
 
 -- its priority
 abbrev pub prio_of : Option LevelState → Option ℕ

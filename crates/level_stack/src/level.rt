@@ -118,6 +118,23 @@ impl Level {
         Ok(())
     }
 
+    /// How many blocks have begun on it.
+    #[tactic(auto, using(crate::proofs::Counts::as_many))]
+    pub(crate) fn depth(&self) -> usize
+        ensures depth { result ≡ length self.now.frames }
+        ensures few { result ≤ 24 }
+    {
+        self.frames.len()
+    }
+
+    /// How many local bytes the block that runs has.
+    pub(crate) fn top_count(&self) -> usize
+        requires { 0 < length self.now.frames }
+        ensures count { result ≡ length (top_locals self.now.frames) }
+    {
+        self.top().len()
+    }
+
     pub(crate) fn leave(&mut self)
         requires { 0 < length self.old.frames }
         ensures { self.new ≡ left self.old }
@@ -141,7 +158,8 @@ impl Level {
     pub(crate) fn read(&self, at_byte: u16, width: u8) -> u32
         requires width { IsWidth width }
         requires holds { at_byte + width ≤ length (top_locals self.now.frames) }
-        ensures { result ≡ value_of (slice_range (top_locals self.now.frames) at_byte (at_byte + width)) }
+        ensures value { result ≡ value_of (slice_range (top_locals self.now.frames) at_byte (at_byte + width)) }
+        ensures bound { result < 2 ^ (8 * width) }
     {
         let from = usize::from(at_byte);
         value_in(&self.top()[from..from + usize::from(width)])

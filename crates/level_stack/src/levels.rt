@@ -2,7 +2,7 @@
 ghost use Rattle.std.specs.Prelude.{◌≡◌, ◌+◌, ◌*◌, ◌^◌, ◌<◌, ◌≤◌, [], ◌∷◌, ◌++◌, List, length, ◌↔◌, OnOk, OnErr, Ok, Err, IfSome};
 ghost use Rattle.std.specs.Prelude.{slice_range};
 ghost use Rattle.level_stack.specs.Values.{IsWidth, value_of};
-ghost use Rattle.level_stack.specs.Levels.{LevelState, last_of, without_last, with_last, entered, left, written, local_count, running_frames, running_locals, running_prio};
+ghost use Rattle.level_stack.specs.Levels.{LevelState, last_of, without_last, with_last, entered, left, ended, written, local_count, running_frames, running_locals, running_prio};
 
 use crate::level::{Level, LevelFault};
 use arrayvec::ArrayVec;
@@ -63,6 +63,25 @@ impl Levels {
         self.levels[self.levels.len() - 1].prio()
     }
 
+    /// Returns how many blocks have begun on the level that runs, at most 24.
+    pub fn depth(&self) -> usize
+        requires { 0 < length self.now }
+        ensures depth { result ≡ length (running_frames self.now) }
+        ensures few { result ≤ 24 }
+    {
+        self.levels[self.levels.len() - 1].depth()
+    }
+
+    /// Returns how many local bytes the block that runs has. Where no block runs there are none.
+    pub fn local_count(&self) -> usize
+        ensures { result ≡ length (running_locals self.now) }
+    {
+        if self.levels.is_empty() || self.depth() == 0 {
+            return 0;
+        }
+        self.levels[self.levels.len() - 1].top_count()
+    }
+
     /// Begins a block on the level that runs, with `temp` local bytes, all 0. Where it is refused nothing changes.
     ///
     /// # Errors
@@ -92,12 +111,26 @@ impl Levels {
         level.leave();
     }
 
+    /// Ends the block that runs, and where it was the last one of its level, the level too. The block that had called it, or
+    /// the level below, runs on.
+    #[tactic(auto, using(crate::proofs::Running::none_runs, crate::proofs::Running::level_runs))]
+    pub fn end_block(&mut self)
+        requires { 0 < length (running_frames self.old) }
+        ensures { self.new ≡ ended self.old }
+    {
+        self.leave();
+        if self.depth() == 0 {
+            self.pop_level();
+        }
+    }
+
     /// The value of `width` local bytes of the block that runs, from byte `at_byte` on, the highest byte first.
     /// `width` is 1, 2 or 4.
     pub fn read_local(&self, at_byte: u16, width: u8) -> u32
         requires width { IsWidth width }
         requires holds { at_byte + width ≤ length (running_locals self.now) }
-        ensures { result ≡ value_of (slice_range (running_locals self.now) at_byte (at_byte + width)) }
+        ensures value { result ≡ value_of (slice_range (running_locals self.now) at_byte (at_byte + width)) }
+        ensures bound { result < 2 ^ (8 * width) }
     {
         let level = &self.levels[self.levels.len() - 1];
         level.read(at_byte, width)

@@ -6,7 +6,8 @@ ghost use Rattle.level_stack.specs.Values.{IsWidth, value_of, overwritten};
 /// The value of 1, 2 or 4 bytes.
 pub(crate) fn value_in(bytes: &[u8]) -> u32
     requires { IsWidth (length bytes.now) }
-    ensures { result ≡ value_of bytes.now }
+    ensures value { result ≡ value_of bytes.now }
+    ensures bound { result < 2 ^ (8 * length bytes.now) }
 {
     match *bytes {
         [byte] => u32::from(byte),

@@ -14,7 +14,7 @@ use Rattle.statement_effects.specs.declared.instruction.Flow.{Flow}
 use Rattle.statement_effects.specs.declared.instruction.Flow.TheVariants as flow
 use Rattle.statement_effects.specs.Areas.{with_registers}
 use Rattle.statement_effects.specs.Effect.{effect_of}
-use Rattle.mc_machine.specs.Meaning.{State, Undefined, Rest, Meaning, Move, Goes, Calls, Reaction, Again, Completes, Turn, Asks, Moves, Halts, Leaves, Ends, statements_of, local_bytes_of, entered, error_level, failed, begun, called, flows, stop_request, takes_at, answered, at_block_end, restored, resume, noting, moves, reacts, completed, took, asking, does, runs, turn_of, turn, body_within, left, body}
+use Rattle.mc_machine.specs.Meaning.{State, Undefined, Rest, Meaning, Move, Goes, Calls, Reaction, Again, Completes, Turn, Asks, Moves, Halts, Leaves, Ends, statements_of, block_entered, error_entered, failed, begun, called, flows, stop_request, takes_at, answered, at_block_end, restored, resume, noting, moves, reacts, completed, took, asking, does, runs, turn_of, turn, body_within, left, body}
 
 -- two continuations agree wherever no more is left than this
 pub record Agree (rest rest' : Rest) (bound : ℕ) : Type 0 where
@@ -65,17 +65,17 @@ does_same m m' here rest rest' s a b e same agree (Halts note memory code) c =
 does_same m m' here rest rest' s a b e same agree Leaves c = agree.at (record s { memory = at_block_end s.memory }) a (omega arith)
 does_same m m' here rest rest' s a b e same agree Ends c = refl
 
-counts_failed : (next : Place) (memory : Memory) (error since : ℕ) → since < 256 → (r : Result Level StopCode) → Counts (failed next memory error r) since
-counts_failed next memory error since lt (Ok level) = lt
-counts_failed next memory error since lt (Err code) = tt
+counts_failed : (next : Place) (level : Level) (memory : Memory) (error since : ℕ) → since < 256 → (r : Result Memory StopCode) → Counts (failed next level memory error r) since
+counts_failed next level memory error since lt (Ok inside) = lt
+counts_failed next level memory error since lt (Err code) = tt
 
-counts_begun : (next : Place) (memory : Memory) (callee : BlockRef) (since : ℕ) → since < 256 → (r : Result Level StopCode) → Counts (begun next memory callee r) since
-counts_begun next memory callee since lt (Ok level) = lt
-counts_begun next memory callee since lt (Err code) = tt
+counts_begun : (next : Place) (level : Level) (memory : Memory) (callee : BlockRef) (since : ℕ) → since < 256 → (r : Result Memory StopCode) → Counts (begun next level memory callee r) since
+counts_begun next level memory callee since lt (Ok inside) = lt
+counts_begun next level memory callee since lt (Err code) = tt
 
 counts_called : (program : Program) (next : Place) (level : Level) (memory : Memory) (callee : BlockRef) (since : ℕ) → since < 256 → (r : Option Code) → Counts (called program next level memory callee r) since
-counts_called program next level memory callee since lt None = counts_failed next memory 7 since lt (error_level program level 7)
-counts_called program next level memory callee since lt (Some code) = counts_begun next memory callee since lt (entered level (local_bytes_of code))
+counts_called program next level memory callee since lt None = counts_failed next level memory 7 since lt (error_entered program level memory 7)
+counts_called program next level memory callee since lt (Some code) = counts_begun next level memory callee since lt (block_entered memory callee code)
 
 counts_flows : (program : Program) (block : BlockRef) (at : ℕ) (level : Level) (since : ℕ) (memory : Memory) → since < 256 → (to : Flow) → Counts (flows program block at level memory to) since
 counts_flows program block at level since memory lt flow.Next = lt
@@ -85,7 +85,7 @@ counts_flows program block at level since memory lt (flow.Call callee) =
     counts_called program (At block (at + 1) level Fresh) level memory callee since lt (code_of program callee.kind callee.number)
 counts_flows program block at level since memory lt flow.End = lt
 counts_flows program block at level since memory lt (flow.Fail error) =
-    counts_failed (At block (at + 1) level Fresh) memory error since lt (error_level program level error)
+    counts_failed (At block (at + 1) level Fresh) level memory error since lt (error_entered program level memory error)
 counts_flows program block at level since memory lt flow.AskNow = tt
 
 counts_runs : (program : Program) (block : BlockRef) (at : ℕ) (level : Level) (since : ℕ) (memory : Memory) (o : Option Statement) → Counts (runs program block at level since memory o) since

@@ -1,5 +1,6 @@
 pub mod AreaBytes
 pub mod Asked
+pub mod Begun
 pub mod Enough
 pub mod Keeps
 pub mod Row

@@ -17,20 +17,22 @@ use Rattle.statement_effects.specs.Effect.{effect_of, effect_if}
 use Rattle.statement_effects.specs.Reading.{instruction_of}
 use Rattle.statement_effects.specs.declared.instruction.Instruction.{Instruction}
 use Rattle.std.specs.Option.{option_map}
-use Rattle.mc_machine.specs.Meaning.{Turn, Asks, Moves, Halts, Leaves, Ends, Goes, Calls, statements_of, local_bytes_of, entered, error_level, failed, begun, called, flows, runs, turn_of, request_of, stop_request}
-use Rattle.mc_machine.specs.Stands.{Config, Follows, AsksAt, IsAsked, IsAskedAt, IsTurned, halts_with, IsHigh, AreStacked, IsSound}
+use Rattle.mc_machine.specs.Meaning.{Turn, Asks, Moves, Halts, Leaves, Ends, Goes, Calls, statements_of, block_entered, error_entered, failed, begun, called, flows, runs, turn_of, request_of, stop_request}
+use Rattle.mc_machine.specs.Stands.{Config, Follows, AsksAt, IsAsked, IsAskedAt, IsTurned, halts_with, IsHigh, AreStacked, AreBegun, IsSound}
+use Rattle.level_stack.specs.Levels.{LevelState, ended, block_counts}
+use Rattle.mc_machine.proofs.Begun.{no_level, one_less, main_over, same_begun}
 
-asked_failed : (next : Place) (memory : Memory) (error : ℕ) (r : Request) (o : Result Level StopCode) → failed next memory error o ≡ Asks r → ⊥
-asked_failed next memory error r (Ok level) e = cc
-asked_failed next memory error r (Err code) e = cc
+asked_failed : (next : Place) (level : Level) (memory : Memory) (error : ℕ) (r : Request) (o : Result Memory StopCode) → failed next level memory error o ≡ Asks r → ⊥
+asked_failed next level memory error r (Ok inside) e = cc
+asked_failed next level memory error r (Err code) e = cc
 
-asked_begun : (next : Place) (memory : Memory) (callee : BlockRef) (r : Request) (o : Result Level StopCode) → begun next memory callee o ≡ Asks r → ⊥
-asked_begun next memory callee r (Ok level) e = cc
-asked_begun next memory callee r (Err code) e = cc
+asked_begun : (next : Place) (level : Level) (memory : Memory) (callee : BlockRef) (r : Request) (o : Result Memory StopCode) → begun next level memory callee o ≡ Asks r → ⊥
+asked_begun next level memory callee r (Ok inside) e = cc
+asked_begun next level memory callee r (Err code) e = cc
 
 asked_called : (program : Program) (next : Place) (level : Level) (memory : Memory) (callee : BlockRef) (r : Request) (o : Option Code) → called program next level memory callee o ≡ Asks r → ⊥
-asked_called program next level memory callee r None e = asked_failed next memory 7 r (error_level program level 7) e
-asked_called program next level memory callee r (Some code) e = asked_begun next memory callee r (entered level (local_bytes_of code)) e
+asked_called program next level memory callee r None e = asked_failed next level memory 7 r (error_entered program level memory 7) e
+asked_called program next level memory callee r (Some code) e = asked_begun next level memory callee r (block_entered memory callee code) e
 
 asked_flow : (program : Program) (block : BlockRef) (at : ℕ) (level : Level) (memory : Memory) (r : Request) (to : Flow) → flows program block at level memory to ≡ Asks r → IsAskedAt (At block at level Fresh) r.ask
 asked_flow program block at level memory r flow.Next e = absurd cc
@@ -40,7 +42,7 @@ asked_flow program block at level memory r (flow.Call callee) e =
     absurd (asked_called program (At block (at + 1) level Fresh) level memory callee r (code_of program callee.kind callee.number) e)
 asked_flow program block at level memory r flow.End e = absurd cc
 asked_flow program block at level memory r (flow.Fail error) e =
-    absurd (asked_failed (At block (at + 1) level Fresh) memory error r (error_level program level error) e)
+    absurd (asked_failed (At block (at + 1) level Fresh) level memory error r (error_entered program level memory error) e)
 asked_flow program block at level memory r flow.AskNow e =
     let q : request_of asks.Now level.priority ≡ r = cc in subst (λ (r : Request). IsAskedAt (At block at level Fresh) r.ask) q (block, at, level, Fresh, refl)
 
@@ -89,12 +91,14 @@ high_pop n (f ∷ frames) frame s =
     let e : suc n + length frames ≡ n + length (f ∷ frames) = omega arith in
     ((s.0, r.0), subst (λ k. IsHigh k frame.place) e r.1)
 
-pub pop_sound : (c c' : Config) (frame : Frame) → c.frames ≡ c'.frames ++ frame ∷ [] → c'.place ≡ frame.place → IsSound c → IsSound c'
-pop_sound c c' frame e p sound =
+pub pop_sound : (c c' : Config) (frame : Frame) → c.frames ≡ c'.frames ++ frame ∷ [] → c'.place ≡ frame.place → c'.memory.levels ≡ ended c.memory.levels → IsSound c → IsSound c'
+pop_sound c c' frame e p l sound =
     let h = high_pop 0 c'.frames frame (subst (AreStacked 0) e sound.stacked) in
+    let n : length c.frames ≡ length c'.frames + 1 = ap length e ∙ length-append c'.frames (frame ∷ []) in
     record {
       high = subst (IsHigh (length c'.frames)) (sym p) (subst (λ n. IsHigh n frame.place) (zero-add (length c'.frames)) h.1);
       stacked = h.0;
+      begun = subst (AreBegun (length c'.frames)) (sym l) (one_less (length c'.frames) c.memory.levels (subst (λ k. AreBegun k c.memory.levels) n sound.begun));
     }
 
 high_push : (n : ℕ) (frames : List Frame) (frame : Frame) → AreStacked n frames → IsHigh (n + length frames) frame.place → AreStacked n (frames ++ frame ∷ [])
@@ -105,14 +109,17 @@ high_push n (f ∷ frames) frame s h =
 
 -- there is a frame under a block
 pub high_some : (n : ℕ) (block : BlockRef) (at : ℕ) (level : Level) (mode : Mode) → IsHigh n (At block at level mode) → 0 < n
-high_some n block at level mode h = h.1
+high_some n block at level mode h = h
 
 -- a block begins over the place where another goes on
-pub push_sound : (c c' : Config) (frame : Frame) → c'.frames ≡ c.frames ++ frame ∷ [] → AreStacked 0 c.frames → IsHigh (length c.frames) frame.place → IsHigh (length c.frames + 1) c'.place → IsSound c'
-push_sound c c' frame e stacked under high = record {
-  high = rw (ap length e, length-append c.frames (frame ∷ [])) high;
-  stacked = rw e (high_push 0 c.frames frame stacked (subst (λ n. IsHigh n frame.place) (sym (zero-add (length c.frames))) under));
-}
+pub push_sound : (c c' : Config) (frame : Frame) → c'.frames ≡ c.frames ++ frame ∷ [] → AreStacked 0 c.frames → IsHigh (length c.frames) frame.place → IsHigh (length c.frames + 1) c'.place → AreBegun (length c.frames + 1) c'.memory.levels → IsSound c'
+push_sound c c' frame e stacked under high begun =
+    let n : length c'.frames ≡ length c.frames + 1 = ap length e ∙ length-append c.frames (frame ∷ []) in
+    record {
+      high = rw n high;
+      stacked = rw e (high_push 0 c.frames frame stacked (subst (λ n. IsHigh n frame.place) (sym (zero-add (length c.frames))) under));
+      begun = subst (λ k. AreBegun k c'.memory.levels) (sym n) begun;
+    }
 
 -- what a turn leads to, but for the statements that are completed
 pub turned_since : (t : Turn) (c c' : Config) (since since' at : ℕ) → IsTurned t c since at c' → IsTurned t c since' at (record c' { since = since' })
@@ -179,17 +186,17 @@ run_leaves c c' block at level p s f =
     (sym (ap (turn_of c.program c.since c.memory) p ∙ ap (runs c.program block at level c.since c.memory) (no_statement (slice_get (statements_of c.program block) at) s)))
     f
 
-changed_failed : (c c' : Config) (next : Place) (memory : Memory) (error : ℕ) (o : Option Request) (r : Result Level StopCode) → Follows (failed next memory error r) (record c { memory = memory }) o c' → Follows (failed next memory error r) c o c'
-changed_failed c c' next memory error o (Ok level) f = f
-changed_failed c c' next memory error o (Err code) f = f
+changed_failed : (c c' : Config) (next : Place) (level : Level) (memory : Memory) (error : ℕ) (o : Option Request) (r : Result Memory StopCode) → Follows (failed next level memory error r) (record c { memory = memory }) o c' → Follows (failed next level memory error r) c o c'
+changed_failed c c' next level memory error o (Ok inside) f = f
+changed_failed c c' next level memory error o (Err code) f = f
 
-changed_begun : (c c' : Config) (next : Place) (memory : Memory) (callee : BlockRef) (o : Option Request) (r : Result Level StopCode) → Follows (begun next memory callee r) (record c { memory = memory }) o c' → Follows (begun next memory callee r) c o c'
-changed_begun c c' next memory callee o (Ok level) f = f
-changed_begun c c' next memory callee o (Err code) f = f
+changed_begun : (c c' : Config) (next : Place) (level : Level) (memory : Memory) (callee : BlockRef) (o : Option Request) (r : Result Memory StopCode) → Follows (begun next level memory callee r) (record c { memory = memory }) o c' → Follows (begun next level memory callee r) c o c'
+changed_begun c c' next level memory callee o (Ok inside) f = f
+changed_begun c c' next level memory callee o (Err code) f = f
 
 changed_called : (program : Program) (c c' : Config) (next : Place) (level : Level) (memory : Memory) (callee : BlockRef) (o : Option Request) (r : Option Code) → Follows (called program next level memory callee r) (record c { memory = memory }) o c' → Follows (called program next level memory callee r) c o c'
-changed_called program c c' next level memory callee o None f = changed_failed c c' next memory 7 o (error_level program level 7) f
-changed_called program c c' next level memory callee o (Some code) f = changed_begun c c' next memory callee o (entered level (local_bytes_of code)) f
+changed_called program c c' next level memory callee o None f = changed_failed c c' next level memory 7 o (error_entered program level memory 7) f
+changed_called program c c' next level memory callee o (Some code) f = changed_begun c c' next level memory callee o (block_entered memory callee code) f
 
 -- what follows the changed memory follows the place
 changed : (program : Program) (c c' : Config) (block : BlockRef) (at : ℕ) (level : Level) (memory : Memory) (o : Option Request) (to : Flow) → (to ≡ flow.AskNow → memory ≡ c.memory) → Follows (flows program block at level memory to) (record c { memory = memory }) o c' → Follows (flows program block at level memory to) c o c'
@@ -200,9 +207,23 @@ changed program c c' block at level memory o (flow.Call callee) u f =
     changed_called program c c' (At block (at + 1) level Fresh) level memory callee o (code_of program callee.kind callee.number) f
 changed program c c' block at level memory o flow.End u f = f
 changed program c c' block at level memory o (flow.Fail error) u f =
-    changed_failed c c' (At block (at + 1) level Fresh) memory error o (error_level program level error) f
+    changed_failed c c' (At block (at + 1) level Fresh) level memory error o (error_entered program level memory error) f
 changed program c c' block at level memory o flow.AskNow u f = (f.0, f.1 ∙ ap (λ m. record c { memory = m }) (u refl))
 
 pub run_follows : (c c' : Config) (block : BlockRef) (at : ℕ) (level : Level) (decoded : Option Instruction) (memory : Memory) (to : Flow) (o : Option Request) → c.place ≡ At block at level Fresh → option_map instruction_of (slice_get (statements_of c.program block) at) ≡ Some decoded → c.since < 256 → effect_if decoded c.memory ≡ (memory, to) → (to ≡ flow.AskNow → memory ≡ c.memory) → Follows (flows c.program block at level memory to) (record c { memory = memory }) o c' → Follows (turn_of c.program c.since c.memory c.place) c o c'
 run_follows c c' block at level decoded memory to o p s lt e u f =
     subst (λ t. Follows t c o c') (sym (acts c block at level decoded memory to p s lt e)) (changed c.program c c' block at level memory o to u f)
+
+-- outside every block there is no level
+idle : (c : Config) → c.place ≡ AtInputs → IsSound c → length c.frames ≡ 0
+idle c p sound = subst (IsHigh (length c.frames)) p sound.high
+
+pub no_level_at_inputs : (c : Config) → c.place ≡ AtInputs → IsSound c → c.memory.levels ≡ []
+no_level_at_inputs c p sound = no_level (length c.frames) c.memory.levels sound.begun (idle c p sound)
+
+pub main_is_over : (c : Config) (levels : List LevelState) → c.place ≡ AtInputs → IsSound c → AreBegun 1 levels → AreBegun (length c.frames + 1) levels
+main_is_over c levels p sound begun = main_over (length c.frames) levels (idle c p sound) begun
+
+-- statements begin and end no block, so that a machine is as sound after one
+pub sound_after : (c : Config) (memory : Memory) → block_counts memory.levels ≡ block_counts c.memory.levels → IsSound c → IsSound (record c { memory = memory })
+sound_after c memory e sound = record { high = sound.high; stacked = sound.stacked; begun = same_begun (length c.frames) c.memory.levels memory.levels e sound.begun }

@@ -1,7 +1,9 @@
 -- The frames of an engine, and how blocks are found.
-use Rattle.std.proofs.Common.{◌≡◌, ℕ, zero, suc, ◌<◌, ◌≤◌, ◌==◌, Bool, true, List, [], ◌∷◌, ◌++◌, length, drop, Option, Some, None, slice_get, get_or, map, refl, sym, ap, ◌∙◌, subst, arith}
+use Rattle.std.proofs.Common.{inl, inr, ◌≡◌, ℕ, zero, suc, ◌+◌, ◌<◌, ◌≤◌, ◌==◌, Bool, true, List, [], ◌∷◌, ◌++◌, length, drop, Option, Some, None, slice_get, get_or, map, refl, sym, ap, ◌∙◌, subst, arith}
 use Rattle.std.specs.Prelude.{◌&&◌, if◌then◌else◌}
-use Rattle.std.proofs.lemmas.List.{length-map, map-append, at_drop_all}
+use Rattle.std.specs.Prelude.{slice_index, slice_set}
+use Rattle.std.proofs.lemmas.Bool.{cases_eq}
+use Rattle.std.proofs.lemmas.List.{length-map, map-append, at_drop_all, get_or-set_same, get_or-set_other}
 use Rattle.s7_base.specs.declared.blocks.CodeKind.{CodeKind}
 use Rattle.std.specs.Option.{option_map}
 use Rattle.std.proofs.lemmas.Option.{slice_get-map}
@@ -79,3 +81,12 @@ decoded_found program decoded code at block made is =
     ∙ ap (λ o. o >>= λ block. slice_get block at) (slice_get-map (λ (code : Code). map instruction_of code.statements) program.codes code)
     ∙ ap (λ o. option_map (λ code. map instruction_of code.statements) o >>= λ block. slice_get block at) is
     ∙ found_in (code_of program block.kind block.number) at
+
+-- where the blocks of one number more stand
+pub found_so_far : (codes : List Code) (kind : CodeKind) (indices : List ℕ) (number index : ℕ) → number < length indices → slice_get codes index ≡ code_named codes kind number
+    → ((n : ℕ) → n < number → slice_get codes (slice_index indices n) ≡ code_named codes kind n)
+    → (n : ℕ) → n < number + 1 → slice_get codes (slice_index (slice_set indices number index) n) ≡ code_named codes kind n
+found_so_far codes kind indices number index lt here before n below = elim (cases_eq n number) [
+  | inl e ↦ ap (λ k. slice_get codes (slice_index (slice_set indices number index) k)) e ∙ ap (slice_get codes) (get_or-set_same indices number index 0 lt) ∙ here ∙ ap (code_named codes kind) (sym e)
+  | inr ne ↦ ap (slice_get codes) (get_or-set_other indices number n index 0 ne) ∙ before n (omega arith)
+]

@@ -1,8 +1,11 @@
 -- What an engine is, apart from how it is stored: a block that has begun is found by its index among the code blocks.
-use Rattle.std.specs.Prelude.{◌≡◌, ℕ, List, [], ◌∷◌, map, slice_get, Option}
+use Rattle.std.specs.Prelude.{◌≡◌, ℕ, ◌<◌, List, [], ◌∷◌, map, slice_get, slice_index, Option}
 use Rattle.s7_events.specs.Optional.{◌>>=◌}
 use Rattle.s7_base.specs.declared.blocks.BlockRef.{BlockRef}
-use Rattle.s7_base.specs.Blocks.{Code, Program, code_of}
+use Rattle.s7_base.specs.declared.blocks.CodeKind.{CodeKind}
+use Rattle.s7_base.specs.declared.blocks.CodeKind.TheVariants.{Ob, Fb, Fc}
+use Rattle.s7_base.specs.Blocks.{Code, Program, code_of, code_named}
+use Rattle.mc_machine.specs.declared.index.CodeIndex.{CodeIndex}
 use Rattle.statement_effects.specs.declared.instruction.Instruction.{Instruction}
 use Rattle.statement_effects.specs.Reading.{instruction_of}
 use Rattle.mc_machine.specs.declared.engine.Engine.{Engine}
@@ -19,7 +22,7 @@ use Rattle.mc_machine.specs.Places.{Level, Mode, Fresh, Ticking, Timing, Place, 
 use Rattle.mc_machine.specs.Stands.{Config, Running}
 
 abbrev pub level_in : StoredLevel → Level
-level_in level = record { priority = level.priority; depth = level.depth; local_bytes = level.local_bytes; in_error = level.in_error }
+level_in level = record { priority = level.priority; in_error = level.in_error }
 
 abbrev pub mode_of : StoredMode → Mode
 mode_of modes.Fresh = Fresh
@@ -77,6 +80,16 @@ decoded_in decoded code at = slice_get decoded code >>= λ block. slice_get bloc
 abbrev pub IsCode : Program → ℕ → BlockRef → Type 0
 IsCode program code block = slice_get program.codes code ≡ code_of program block.kind block.number
 
+-- where the code blocks of a kind stand among them, by number
+abbrev pub AreIndices : List Code → CodeKind → List ℕ → Type 0
+AreIndices codes kind indices = (n : ℕ) → n < 256 → slice_get codes (slice_index indices n) ≡ code_named codes kind n
+
+-- where each code block stands
+pub record AreFound (codes : List Code) (index : CodeIndex) : Type 0 where
+  pub organisation_blocks : AreIndices codes Ob index.organisation_blocks
+  pub function_blocks : AreIndices codes Fb index.function_blocks
+  pub functions : AreIndices codes Fc index.functions
+
 abbrev pub IsIndexed : Program → Spot → Type 0
 IsIndexed program spots.AtOutputs = Unit {0}
 IsIndexed program spots.AtInputs = Unit {0}
@@ -89,8 +102,10 @@ abbrev pub AreIndexed : Program → List StoredFrame → Type 0
 AreIndexed program [] = Unit {0}
 AreIndexed program (frame ∷ frames) = IsIndexed program frame.spot × AreIndexed program frames
 
--- each block that runs, or goes on later, is found by its index, and its statements were decoded
+-- each block that runs, or goes on later, is found by its index, its statements were decoded, and where each code block stands
+-- was found
 pub record IsStored (engine : Engine) : Type 0 where
   pub here : IsIndexed engine.program engine.spot
   pub later : AreIndexed engine.program engine.frames.items
   pub decoded : engine.decoded.items ≡ decoded_codes engine.program.codes
+  pub found : AreFound engine.program.codes engine.index

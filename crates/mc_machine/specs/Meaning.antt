@@ -20,7 +20,10 @@ use Rattle.s7_events.specs.Priorities.{priority_of}
 use Rattle.s7_events.specs.declared.entry.StopCode.{StopCode}
 use Rattle.s7_events.specs.declared.entry.StopCode.TheVariants as stops
 use Rattle.bit_unit.specs.State.{cleared_unit}
+use Rattle.level_stack.specs.declared.level.LevelFault.{LevelFault}
+use Rattle.level_stack.specs.declared.level.LevelFault.TheVariants.{DepthReached, LocalFull}
 use Rattle.statement_effects.specs.State.{Memory}
+use Rattle.statement_effects.specs.Levels.{with_level, entered, without_block}
 use Rattle.statement_effects.specs.declared.areas.Registers.{Registers}
 use Rattle.mc_machine.specs.Places.{Level, Mode, Fresh, Ticking, Timing, Place, AtOutputs, AtInputs, AtCycle, AtStop, Over, At, Kept, Whole, Brackets, Frame, Note}
 use Rattle.statement_effects.specs.declared.instruction.Instruction.{Instruction}
@@ -116,23 +119,23 @@ abbrev pub local_bytes_in : Option Code → ℕ
 local_bytes_in None = 0
 local_bytes_in (Some code) = local_bytes_of code
 
--- an organisation block begins on a level of its own
-abbrev pub level_of : Program → ℕ → Level
-level_of program ob = record { priority = priority_of ob; depth = 1; local_bytes = local_bytes_in (code_of program Ob ob); in_error = false }
+-- the stop where a block cannot begin: 24 blocks have begun on the level, or they have 256 local bytes
+abbrev pub stop_of : LevelFault → StopCode
+stop_of DepthReached = stops.Depth
+stop_of LocalFull = stops.Local
 
--- the level where one block more begins on it
-abbrev pub deeper : Level → ℕ → Level
-deeper level bytes = record level { depth = level.depth + 1; local_bytes = level.local_bytes + bytes }
+abbrev pub or_stop : Result Memory LevelFault → Result Memory StopCode
+or_stop (Ok memory) = Ok memory
+or_stop (Err fault) = Err (stop_of fault)
 
--- a block of so many local bytes begins on a level: 24 blocks at most, and 256 local bytes together
-abbrev pub entered : Level → ℕ → Result Level StopCode
-entered level bytes =
-    if nat_lt level.depth 24 then (if nat_lt 256 (level.local_bytes + bytes) then Err stops.Local else Ok (deeper level bytes)) else Err stops.Depth
+-- a block begins on the level that runs, with its local data
+abbrev pub block_entered : Memory → BlockRef → Code → Result Memory StopCode
+block_entered memory block code = or_stop (entered memory block (local_bytes_of code))
 
--- a block begins, unless it is not loaded
-abbrev pub entered_if : StopCode → Level → Option Code → Result Level StopCode
-entered_if missing level None = Err missing
-entered_if missing level (Some code) = entered level (local_bytes_of code)
+-- the same, unless it is not loaded
+abbrev pub entered_if : StopCode → Memory → BlockRef → Option Code → Result Memory StopCode
+entered_if missing memory block None = Err missing
+entered_if missing memory block (Some code) = block_entered memory block code
 
 -- errors --
 
@@ -144,27 +147,30 @@ error_ob error = if error == 9 then 122 else 121
 abbrev pub no_error_ob : ℕ → StopCode
 no_error_ob error = if error == 9 then stops.NoOb122 else stops.NoOb121
 
--- the level on which the OB of an error begins: that of the block that failed. Inside an error OB, or in a block that it
--- called, there is none
-abbrev pub error_level : Program → Level → ℕ → Result Level StopCode
-error_level program level error =
+abbrev pub error_block : ℕ → BlockRef
+error_block error = record { kind = Ob; number = error_ob error }
+
+-- the OB of an error begins on the level of the block that failed. Inside an error OB, or in a block that it called, there is
+-- none
+abbrev pub error_entered : Program → Level → Memory → ℕ → Result Memory StopCode
+error_entered program level memory error =
     if level.in_error then Err stops.InError
-    else entered_if (no_error_ob error) (record level { in_error = true }) (code_of program Ob (error_ob error))
+    else entered_if (no_error_ob error) memory (error_block error) (code_of program Ob (error_ob error))
 
 -- an error OB begins with the accumulators of the block that failed
 abbrev pub error_registers : Registers → Registers
 error_registers registers = record clear_registers { accus = registers.accus }
 
 -- a statement failed: a diagnostic entry is made, and the error OB begins, or the CPU asks to stop
-abbrev pub failed : Place → Memory → ℕ → Result Level StopCode → Turn
-failed next memory error (Err code) = Halts (Some (notes.Error error)) memory code
-failed next memory error (Ok level) =
+abbrev pub failed : Place → Level → Memory → ℕ → Result Memory StopCode → Turn
+failed next level memory error (Err code) = Halts (Some (notes.Error error)) memory code
+failed next level memory error (Ok inside) =
     Moves (Some (notes.Error error))
-    (Calls (with_registers memory (error_registers memory.registers)) (At (record { kind = Ob; number = error_ob error }) 0 level Fresh) (record { place = next; kept = Whole memory.registers }))
+    (Calls (with_registers inside (error_registers memory.registers)) (At (error_block error) 0 (record level { in_error = true }) Fresh) (record { place = next; kept = Whole memory.registers }))
 
 -- a statement fails that another place follows
 abbrev pub fails : Program → Place → Level → Memory → ℕ → Turn
-fails program next level memory error = failed next memory error (error_level program level error)
+fails program next level memory error = failed next level memory error (error_entered program level memory error)
 
 -- calls --
 
@@ -173,15 +179,15 @@ abbrev pub call_registers : Registers → Registers
 call_registers registers = record registers { status = effect_end registers.status; unit = cleared_unit }
 
 -- a called block begins, and at its end another place goes on; or there is no depth or local data left, and the CPU asks to stop
-abbrev pub begun : Place → Memory → BlockRef → Result Level StopCode → Turn
-begun next memory callee (Err code) = Halts None memory code
-begun next memory callee (Ok level) =
-    Moves None (Calls (with_registers memory (call_registers memory.registers)) (At callee 0 level Fresh) (record { place = next; kept = Brackets memory.registers.unit }))
+abbrev pub begun : Place → Level → Memory → BlockRef → Result Memory StopCode → Turn
+begun next level memory callee (Err code) = Halts None memory code
+begun next level memory callee (Ok inside) =
+    Moves None (Calls (with_registers inside (call_registers memory.registers)) (At callee 0 level Fresh) (record { place = next; kept = Brackets memory.registers.unit }))
 
 -- a block is called, at whose end another place goes on; one that is not loaded is error 7
 abbrev pub called : Program → Place → Level → Memory → BlockRef → Option Code → Turn
 called program next level memory callee None = fails program next level memory 7
-called program next level memory callee (Some code) = begun next memory callee (entered level (local_bytes_of code))
+called program next level memory callee (Some code) = begun next level memory callee (block_entered memory callee code)
 
 abbrev pub calls : Program → Place → Level → Memory → BlockRef → Turn
 calls program next level memory callee = called program next level memory callee (code_of program callee.kind callee.number)
@@ -257,10 +263,22 @@ with_inputs memory image = record memory { inputs = image }
 abbrev pub cycle_frame : Frame
 cycle_frame = record { place = AtCycle; kept = Whole clear_registers }
 
+-- OB1 runs on a level of its own
+abbrev pub main_level : Level
+main_level = record { priority = priority_of 1; in_error = false }
+
+abbrev pub main_entered : Program → Memory → Result Memory StopCode
+main_entered program memory = or_stop (entered (with_level memory (priority_of 1)) main_block (local_bytes_in (code_of program Ob 1)))
+
+abbrev pub main_begun : Memory → Result Memory StopCode → Move
+main_begun memory (Ok inside) = Calls inside (At main_block 0 main_level Fresh) cycle_frame
+main_begun memory (Err code) = Goes memory (AtStop code)
+
 -- OB1 begins over the input image that was answered
 abbrev pub begins_main : Program → Memory → List ℕ → Move
 begins_main program memory image =
-    Calls (with_registers (with_inputs memory image) clear_registers) (At main_block 0 (level_of program 1) Fresh) cycle_frame
+    let before : Memory = with_registers (with_inputs memory image) clear_registers in
+    main_begun before (main_entered program before)
 
 -- a statement that asked for the moment is completed by it, or fails
 abbrev pub timed_outcome : Program → BlockRef → ℕ → Level → Memory → Result Memory ℕ → Turn
@@ -330,9 +348,9 @@ answered program memory place _ _ = Again None (Goes memory place)
 
 -- the recursion --
 
--- at the end of a block, before any registers come back
+-- at the end of a block, before any registers come back; its local data is gone
 abbrev pub at_block_end : Memory → Memory
-at_block_end memory = with_status memory (effect_end memory.registers.status)
+at_block_end memory = with_status (without_block memory) (effect_end memory.registers.status)
 
 -- the registers when what was kept comes back
 abbrev pub restored : Registers → Kept → Registers

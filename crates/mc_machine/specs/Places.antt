@@ -6,12 +6,9 @@ use Rattle.s7_events.specs.declared.diagnostics.DiagCode.{DiagCode}
 use Rattle.bit_unit.specs.State.{BitState}
 use Rattle.statement_effects.specs.declared.areas.Registers.{Registers}
 
--- the level that a block runs on: its priority, how many blocks have begun on it and have not ended, the local bytes that
--- these have together, and whether one of them is an error OB
+-- the level that a block runs on: its priority, and whether one of the blocks that have begun on it is an error OB
 pub record Level : Type 0 where
   pub priority : ℕ
-  pub depth : ℕ
-  pub local_bytes : ℕ
   pub in_error : Bool
 
 -- whether a block comes to its statement anew, or makes again a request that was not ended

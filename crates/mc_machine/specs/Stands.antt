@@ -10,6 +10,7 @@ use Rattle.s7_events.specs.declared.diagnostics.Area.{Area}
 use Rattle.s7_events.specs.declared.diagnostics.Area.TheVariants.{I, Q, M, Db, Timers, Counters, Registers}
 use Rattle.s7_base.specs.declared.blocks.BlockRef.{BlockRef}
 use Rattle.s7_base.specs.Blocks.{Program}
+use Rattle.level_stack.specs.Levels.{LevelState}
 use Rattle.statement_effects.specs.State.{Memory}
 use Rattle.mc_machine.specs.Places.{Level, Mode, Place, AtOutputs, AtInputs, AtCycle, AtStop, Over, At, Frame, Note}
 use Rattle.timers.specs.Bytes as timer_form
@@ -89,24 +90,34 @@ Follows (Halts note memory code) c asked c' = (asked ≡ Some (stop_request code
 Follows Leaves c asked c' = (asked ≡ None) × (frame : Frame) × (c.frames ≡ c'.frames ++ frame ∷ []) × (c' ≡ record { program = c.program; place = frame.place; frames = c'.frames; memory = with_registers (at_block_end c.memory) (restored (at_block_end c.memory).registers frame.kept); since = c.since; at = c.at; cycles = c.cycles; diag = c.diag })
 Follows Ends c asked c' = ⊥
 
--- how many frames lie under a place: under a block that of the cycle, and that of each block that has begun before it on
--- its level
+-- how many frames lie under a place: under a block that of the cycle at least
 abbrev pub IsHigh : ℕ → Place → Type 0
 IsHigh n AtOutputs = n ≡ 0
 IsHigh n AtInputs = n ≡ 0
 IsHigh n AtCycle = n ≡ 0
 IsHigh n (AtStop code) = Unit {0}
 IsHigh n Over = ⊥
-IsHigh n (At block at level mode) = (n ≡ level.depth) × (0 < n)
+IsHigh n (At block at level mode) = 0 < n
 
 -- each frame has as many under it as its place may have
 abbrev pub AreStacked : ℕ → List Frame → Type 0
 AreStacked n [] = Unit {0}
 AreStacked n (frame ∷ frames) = IsHigh n frame.place × AreStacked (suc n) frames
 
+-- as many blocks have begun, on one level, as there are frames; or none has, and there is no level
+abbrev pub AreBegun : ℕ → List LevelState → Type 0
+AreBegun n [] = n ≡ 0
+AreBegun n (level ∷ []) = (n ≡ length level.frames) × (0 < n)
+AreBegun n (level ∷ other ∷ below) = ⊥
+
 pub record IsSound (c : Config) : Type 0 where
   pub high : IsHigh (length c.frames) c.place
   pub stacked : AreStacked 0 c.frames
+  pub begun : AreBegun (length c.frames) c.memory.levels
+
+-- a block more has begun on a level that runs, and 24 at most
+abbrev pub IsDeeper : List LevelState → List LevelState → Type 0
+IsDeeper before after = (n : ℕ) → AreBegun n before → 0 < n → AreBegun (n + 1) after × (n < 24)
 
 -- the place asks this request
 abbrev pub AsksAt : Config → Request → Type 0

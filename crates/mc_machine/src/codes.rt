@@ -18,7 +18,7 @@ fn is_named(code: &CodeBlock, block: BlockRef) -> bool
 }
 
 /// The index of a block in a list of code blocks; behind the last of them where it is not there.
-fn index_in(codes: &[CodeBlock], block: BlockRef) -> usize
+pub fn index_in(codes: &[CodeBlock], block: BlockRef) -> usize
     ensures { slice_get codes.now result ≡ code_named codes.now block.kind block.number }
 {
     for (index, code) in codes.iter().enumerate() {
@@ -27,13 +27,6 @@ fn index_in(codes: &[CodeBlock], block: BlockRef) -> usize
         }
     }
     codes.len()
-}
-
-/// The index of a block among the code blocks; behind the last of them where it is not loaded.
-pub fn code_index(program: &Blocks, block: BlockRef) -> usize
-    ensures { IsCode program.now result block }
-{
-    index_in(program.codes(), block)
 }
 
 /// The code blocks of a program, decoded.

@@ -4,14 +4,15 @@ ghost use Rattle.s7_base.specs.Blocks.{Program};
 ghost use Rattle.s7_events.specs.declared.entry.Answer.{Answer};
 ghost use Rattle.s7_base.specs.declared.blocks.BlockRef.{BlockRef};
 ghost use Rattle.mc_machine.specs.Meaning.{error_registers, fails, begun, calls, turn_of, flows, jump_among, cycle_length, cycles_after, answered, takes, stops_cpu, begins_main, lost_note, again_mode, again, resumed, timed_at, Leaves, Waits, std, request_of, stop_request};
-ghost use Rattle.mc_machine.specs.Stands.{Running, state_of, newest, with_newest, StandsFor, IsMoved, IsTurned, halts_with, Reacts, Follows, register_head, register_bytes, IsHigh, AreStacked, IsSound, IsValid, IsAskedAt, AsksAt, Keeps, IsTaken, IsDated, IsAsked, GoesOn};
+ghost use Rattle.mc_machine.specs.Stands.{Running, state_of, newest, with_newest, StandsFor, IsMoved, IsTurned, halts_with, Reacts, Follows, register_head, register_bytes, IsHigh, AreStacked, AreBegun, IsSound, IsValid, IsAskedAt, AsksAt, Keeps, IsTaken, IsDated, IsAsked, GoesOn};
 ghost use Rattle.mc_machine.specs.Places.{AtInputs, Over, At, Fresh};
-ghost use Rattle.mc_machine.specs.EngineView.{level_in, mode_of, place_of, frame_of, config_of, running_of, decoded_codes, gone_to, IsCode, IsIndexed, AreIndexed, IsStored};
+ghost use Rattle.mc_machine.specs.EngineView.{level_in, mode_of, place_of, frame_of, config_of, running_of, decoded_codes, gone_to, IsCode, IsIndexed, AreIndexed, AreFound, IsStored};
 ghost use Rattle.s7_events.specs.declared.entry.Ask.{Ask};
 
-use crate::codes::{code_index, decoded_at, end_of, instruction_in};
+use crate::codes::{decoded_at, end_of, instruction_in};
+use crate::index::CodeIndex;
 use crate::levels::{
-    call_registers, entered, error_level, error_ob, error_registers, local_bytes, main_level,
+    call_registers, enter_block, enter_error_ob, enter_main, error_ob, error_registers, ob,
     restored,
 };
 use crate::places::{BlockSpot, Frame, Level, Mode, Note, Returns, Spot};
@@ -31,6 +32,8 @@ pub struct Engine {
     program: Blocks,
     /// The code blocks of the program, decoded.
     decoded: Vec<DecodedBlock>,
+    /// Where each of them stands.
+    index: CodeIndex,
     memory: Memory,
     since: u16,
     at: u64,
@@ -123,16 +126,6 @@ fn at_statement(spot: BlockSpot, at: usize) -> Spot
     })
 }
 
-/// The organisation block of a number.
-fn ob(number: u8) -> BlockRef
-    ensures { result ≡ record { kind = CodeKind.Ob; number = number } }
-{
-    BlockRef {
-        kind: CodeKind::Ob,
-        number,
-    }
-}
-
 /// How a block makes a request again.
 fn again_mode(ask: &Ask, mode: Mode) -> Mode
     ensures { mode_of result ≡ again_mode ask.now (mode_of mode) }
@@ -158,9 +151,11 @@ impl Engine {
             moment: 0,
             code: DiagCode::Start,
         });
+        let index = CodeIndex::of(program.codes());
         Engine {
             program,
             decoded,
+            index,
             memory: Memory::start(),
             since: 0,
             at: 0,
@@ -372,6 +367,7 @@ impl Engine {
     }
 
     /// The statement that asked for the moment is completed by it, or fails.
+    #[tactic(auto, using(crate::proofs::Begun::same_begun))]
     fn time(&mut self, moment: u64)
         requires sound { IsSound (config_of self.old) }
         requires stored { IsStored self.old }
@@ -424,6 +420,7 @@ impl Engine {
     }
 
     /// OB1 begins over the input image.
+    #[tactic(auto, using(crate::proofs::Sound::no_level_at_inputs, crate::proofs::Sound::main_is_over))]
     fn begin_main(&mut self, image: [u8; 64])
         requires sound { IsSound (config_of self.old) }
         requires stored { IsStored self.old }
@@ -433,13 +430,20 @@ impl Engine {
         ensures stored { IsStored self.new }
         ensures waits { self.new.waits ≡ self.old.waits }
     {
-        let level = main_level(&self.program);
         self.memory.set_inputs(image);
         self.memory.set_registers(Registers::clear());
+        if let Err(code) = enter_main(&self.program, &self.index, &mut self.memory) {
+            self.spot = Spot::AtStop(code);
+            return;
+        }
         let frame = Frame {
             spot: Spot::AtCycle,
             kept: Registers::clear(),
             returns: Returns::Whole,
+        };
+        let level = Level {
+            priority: 1,
+            in_error: false,
         };
         self.begin(ob(1), level, frame);
     }
@@ -556,6 +560,7 @@ impl Engine {
 
     /// A statement failed: a diagnostic entry is made, and its error OB begins, or the CPU asks to stop. How many
     /// statements were completed is left as it was.
+    #[tactic(auto, using(crate::proofs::Begun::has_level))]
     fn fail(&mut self, error: u8, spot: BlockSpot) -> Option<Request>
         requires sound { IsSound (config_of self.old) }
         requires stored { IsStored self.old }
@@ -569,13 +574,17 @@ impl Engine {
         ensures going { (config_of self.new).place ≢ Over }
         ensures waits { self.new.waits ≡ self.old.waits }
     {
-        match error_level(&self.program, spot.level, error) {
-            Ok(level) => {
-                let registers = self.memory.registers();
+        let registers = self.memory.registers();
+        match enter_error_ob(&self.program, &self.index, &mut self.memory, spot.level, error) {
+            Ok(()) => {
                 let frame = Frame {
                     spot: at_statement(spot, spot.at + 1),
                     kept: registers,
                     returns: Returns::Whole,
+                };
+                let level = Level {
+                    priority: spot.level.priority,
+                    in_error: true,
                 };
                 self.memory.set_registers(error_registers(&registers));
                 self.begin(ob(error_ob(error)), level, frame);
@@ -611,6 +620,7 @@ impl Engine {
     }
 
     /// A block is called. The statement is completed where it begins, or where it is not loaded and the error OB begins.
+    #[tactic(auto, using(crate::proofs::Begun::has_level))]
     fn call(&mut self, callee: BlockRef, spot: BlockSpot)
         requires sound { IsSound (config_of self.old) }
         requires stored { IsStored self.old }
@@ -623,11 +633,11 @@ impl Engine {
         ensures sound { IsSound (config_of self.new) }
         ensures stored { IsStored self.new }
     {
-        let Some(code) = self.program.code(callee.kind, callee.number) else {
+        let Some(code) = self.index.code(&self.program, callee) else {
             return self.fail_statement(NOT_LOADED, spot);
         };
-        match entered(spot.level, local_bytes(code)) {
-            Ok(level) => self.begin_called(callee, level, spot),
+        match enter_block(&mut self.memory, callee, code) {
+            Ok(()) => self.begin_called(callee, spot),
             Err(code) => {
                 self.spot = Spot::AtStop(code);
                 self.wait_at(stop_request(code));
@@ -635,17 +645,18 @@ impl Engine {
         }
     }
 
-    /// A block that is called begins on its level.
-    fn begin_called(&mut self, callee: BlockRef, level: Level, spot: BlockSpot)
-        requires sound { IsSound (config_of self.old) }
+    /// A block that is called begins, once it has its local data.
+    fn begin_called(&mut self, callee: BlockRef, spot: BlockSpot)
+        requires stacked { AreStacked 0 (config_of self.old).frames }
+        requires begun { AreBegun (length (config_of self.old).frames + 1) self.old.memory.levels }
+        requires room { length (config_of self.old).frames < 24 }
         requires stored { IsStored self.old }
         requires ready { self.old.waits ≡ None }
         requires here { IsHigh (length (config_of self.old).frames) (At spot.block spot.at (level_in spot.level) Fresh) }
         requires code { IsCode self.old.program spot.code spot.block }
-        requires deeper { (spot.level.depth < 24) × (level.depth ≡ spot.level.depth + 1) }
         requires before { self.old.since < 256 }
         requires within { spot.at + 1 < 2 ^ 64 }
-        ensures turned { Follows (begun (At spot.block (spot.at + 1) (level_in spot.level) Fresh) self.old.memory callee (Ok (level_in level))) (config_of self.old) self.new.waits (config_of self.new) }
+        ensures turned { Follows (begun (At spot.block (spot.at + 1) (level_in spot.level) Fresh) (level_in spot.level) self.old.memory callee (Ok self.old.memory)) (config_of self.old) self.new.waits (config_of self.new) }
         ensures sound { IsSound (config_of self.new) }
         ensures stored { IsStored self.new }
     {
@@ -656,7 +667,7 @@ impl Engine {
             returns: Returns::Brackets,
         };
         self.memory.set_registers(call_registers(&registers));
-        self.begin(callee, level, frame);
+        self.begin(callee, spot.level, frame);
         self.since += 1;
     }
 
@@ -683,17 +694,18 @@ impl Engine {
     fn begin(&mut self, block: BlockRef, level: Level, frame: Frame)
         requires stacked { AreStacked 0 (config_of self.old).frames }
         requires under { IsHigh (length (config_of self.old).frames) (frame_of frame).place }
-        requires high { IsHigh (length (config_of self.old).frames + 1) (At block 0 (level_in level) Fresh) }
+        requires begun { AreBegun (length (config_of self.old).frames + 1) self.old.memory.levels }
         requires room { length (config_of self.old).frames < 24 }
         requires frames { AreIndexed self.old.program self.old.frames.items }
         requires indexed { IsIndexed self.old.program frame.spot }
         requires decoded { self.old.decoded.items ≡ decoded_codes self.old.program.codes }
+        requires found { AreFound self.old.program.codes self.old.index }
         ensures moved { config_of self.new ≡ record (config_of self.old) { place = At block 0 (level_in level) Fresh; frames = (config_of self.old).frames ++ frame_of frame ∷ [] } }
         ensures sound { IsSound (config_of self.new) }
         ensures stored { IsStored self.new }
         ensures waits { self.new.waits ≡ self.old.waits }
     {
-        let code = code_index(&self.program, block);
+        let code = self.index.find(block);
         self.frames.push(frame);
         self.spot = Spot::At(BlockSpot {
             block,
@@ -720,6 +732,7 @@ impl Engine {
         };
         let mut registers = self.memory.registers();
         registers.status.after_block();
+        self.memory.end_block();
         self.memory.set_registers(restored(&registers, &frame));
         self.spot = frame.spot;
     }

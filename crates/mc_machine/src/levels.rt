@@ -1,18 +1,15 @@
-//! The level on which a block begins, and what an error leads to.
-ghost use Rattle.std.specs.Prelude.{◌≡◌, ◌<◌, ◌+◌, Ok, Err, IfOk, IfErr};
-ghost use Rattle.mc_machine.specs.Meaning.{local_bytes_of, level_of, entered, error_ob, no_error_ob, error_level, error_registers, call_registers, restored};
-ghost use Rattle.mc_machine.specs.EngineView.{level_in, kept_of};
+//! How blocks begin, and what an error leads to.
+ghost use Rattle.std.specs.Prelude.{◌≡◌, ◌<◌, [], length, Ok, Err, OnOk, OnErr, IfErr};
+ghost use Rattle.s7_base.specs.declared.blocks.CodeKind.{CodeKind};
+ghost use Rattle.mc_machine.specs.Meaning.{local_bytes_of, stop_of, block_entered, main_entered, error_ob, no_error_ob, error_entered, error_registers, call_registers, restored};
+ghost use Rattle.mc_machine.specs.Stands.{AreBegun, IsDeeper};
+ghost use Rattle.mc_machine.specs.EngineView.{level_in, kept_of, AreFound};
 
+use crate::index::CodeIndex;
 use crate::places::{Frame, Level, Returns};
 use bit_unit::BitUnit;
-use s7_base::{Blocks, CodeBlock, CodeKind, StopCode};
-use statement_effects::Registers;
-
-/// How many blocks may have begun on a level.
-const DEPTH: u8 = 24;
-
-/// How many local bytes the blocks of a level may have together.
-const LOCAL_BYTES: u32 = 256;
+use s7_base::{BlockRef, Blocks, CodeBlock, CodeKind, StopCode};
+use statement_effects::{LevelFault, Memory, Registers};
 
 /// The local bytes of a code block.
 pub fn local_bytes(code: &CodeBlock) -> u16
@@ -25,42 +22,69 @@ pub fn local_bytes(code: &CodeBlock) -> u16
     }
 }
 
-/// The level on which OB1 begins.
-pub fn main_level(program: &Blocks) -> Level
-    ensures level { level_in result ≡ level_of program.now 1 }
-    ensures depth { result.depth ≡ 1 }
+/// The stop where a block cannot begin.
+fn stop_of(fault: LevelFault) -> StopCode
+    ensures { result ≡ stop_of fault }
 {
-    let local_bytes = match program.code(CodeKind::Ob, 1) {
-        Some(code) => local_bytes(code),
-        None => 0,
-    };
-    Level {
-        priority: 1,
-        depth: 1,
-        local_bytes,
-        in_error: false,
+    match fault {
+        LevelFault::DepthReached => StopCode::Depth,
+        LevelFault::LocalFull => StopCode::Local,
     }
 }
 
-/// The level where a block of so many local bytes begins on it.
-pub fn entered(level: Level, bytes: u16) -> Result<Level, StopCode>
-    ensures ok { IfOk result (λ deeper. entered (level_in level) bytes ≡ Ok (level_in deeper)) }
-    ensures err { IfErr result (λ code. entered (level_in level) bytes ≡ Err code) }
-    ensures deeper { IfOk result (λ deeper. (level.depth < 24) × (deeper.depth ≡ level.depth + 1)) }
+/// Begins a block on the level that runs, with its local data.
+///
+/// # Errors
+/// The stop where no depth or no local data is left. Nothing changes.
+#[tactic(auto, using(crate::proofs::Begun::has_level, crate::proofs::Begun::is_deeper))]
+pub fn enter_block(memory: &mut Memory, block: BlockRef, code: &CodeBlock) -> Result<(), StopCode>
+    requires { 0 < length memory.old.levels }
+    ensures ok { OnOk result (block_entered memory.old block code.now ≡ Ok memory.new) }
+    ensures deeper { OnOk result (IsDeeper memory.old.levels memory.new.levels) }
+    ensures err { IfErr result (λ stop. block_entered memory.old block code.now ≡ Err stop) }
+    ensures same { OnErr result (memory.new ≡ memory.old) }
 {
-    if level.depth >= DEPTH {
-        return Err(StopCode::Depth);
+    match memory.begin_block(block, local_bytes(code)) {
+        Ok(()) => Ok(()),
+        Err(fault) => Err(stop_of(fault)),
     }
-    let local_bytes = u32::from(level.local_bytes) + u32::from(bytes);
-    if local_bytes > LOCAL_BYTES {
-        return Err(StopCode::Local);
+}
+
+/// Begins OB1 on a level of its own.
+///
+/// # Errors
+/// The stop where it has no local data. Nothing changes.
+#[tactic(auto, using(crate::proofs::Begun::main_begins))]
+pub fn enter_main(
+    program: &Blocks,
+    index: &CodeIndex,
+    memory: &mut Memory,
+) -> Result<(), StopCode>
+    requires found { AreFound program.now.codes index.now }
+    requires idle { memory.old.levels ≡ [] }
+    ensures ok { OnOk result (main_entered program.now memory.old ≡ Ok memory.new) }
+    ensures begun { OnOk result (AreBegun 1 memory.new.levels) }
+    ensures err { IfErr result (λ stop. main_entered program.now memory.old ≡ Err stop) }
+    ensures same { OnErr result (memory.new ≡ memory.old) }
+{
+    let bytes = match index.code(program, ob(1)) {
+        Some(code) => local_bytes(code),
+        None => 0,
+    };
+    match memory.begin_level(1, ob(1), bytes) {
+        Ok(()) => Ok(()),
+        Err(fault) => Err(stop_of(fault)),
     }
-    Ok(Level {
-        priority: level.priority,
-        depth: level.depth + 1,
-        local_bytes: local_bytes as u16,
-        in_error: level.in_error,
-    })
+}
+
+/// The organisation block of a number.
+pub fn ob(number: u8) -> BlockRef
+    ensures { result ≡ record { kind = CodeKind.Ob; number = number } }
+{
+    BlockRef {
+        kind: CodeKind::Ob,
+        number,
+    }
 }
 
 /// The number of the OB of an error.
@@ -81,25 +105,32 @@ fn no_error_ob(error: u8) -> StopCode
     }
 }
 
-/// The level on which the OB of an error begins, or the stop where it cannot.
-pub fn error_level(program: &Blocks, level: Level, error: u8) -> Result<Level, StopCode>
-    ensures ok { IfOk result (λ inside. error_level program.now (level_in level) error ≡ Ok (level_in inside)) }
-    ensures err { IfErr result (λ code. error_level program.now (level_in level) error ≡ Err code) }
-    ensures deeper { IfOk result (λ inside. (level.depth < 24) × (inside.depth ≡ level.depth + 1)) }
+/// Begins the OB of an error on the level of the block that failed.
+///
+/// # Errors
+/// The stop where it cannot begin. Nothing changes.
+pub fn enter_error_ob(
+    program: &Blocks,
+    index: &CodeIndex,
+    memory: &mut Memory,
+    level: Level,
+    error: u8,
+) -> Result<(), StopCode>
+    requires found { AreFound program.now.codes index.now }
+    requires level { 0 < length memory.old.levels }
+    ensures ok { OnOk result (error_entered program.now (level_in level) memory.old error ≡ Ok memory.new) }
+    ensures deeper { OnOk result (IsDeeper memory.old.levels memory.new.levels) }
+    ensures err { IfErr result (λ stop. error_entered program.now (level_in level) memory.old error ≡ Err stop) }
+    ensures same { OnErr result (memory.new ≡ memory.old) }
 {
     if level.in_error {
         return Err(StopCode::InError);
     }
-    let Some(code) = program.code(CodeKind::Ob, error_ob(error)) else {
+    let block = ob(error_ob(error));
+    let Some(code) = index.code(program, block) else {
         return Err(no_error_ob(error));
     };
-    let inside = Level {
-        priority: level.priority,
-        depth: level.depth,
-        local_bytes: level.local_bytes,
-        in_error: true,
-    };
-    entered(inside, local_bytes(code))
+    enter_block(memory, block, code)
 }
 
 /// The registers with which an error OB begins.

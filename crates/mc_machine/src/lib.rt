@@ -4,6 +4,7 @@
 mod codes;
 mod cpu;
 mod engine;
+mod index;
 mod laws;
 mod levels;
 mod places;

@@ -4,13 +4,10 @@ use s7_base::{BlockRef, DiagCode, StopCode};
 use statement_effects::Registers;
 use std::marker::Model;
 
-/// The level that a block runs on: its priority, how many blocks have begun on it and have not ended, the local bytes
-/// that these have together, and whether one of them is an error OB.
+/// The level that a block runs on: its priority, and whether one of the blocks that have begun on it is an error OB.
 #[derive(Clone, Copy, Debug)]
 pub struct Level {
     pub priority: u8,
-    pub depth: u8,
-    pub local_bytes: u16,
     pub in_error: bool,
 }
 

@@ -1,8 +1,8 @@
 -- Each operand that is allowed and is supported is decoded, and is of a form that its kind allows.
-use Rattle.std.proofs.Common.{◌≡◌, ℕ, ◌+◌, ◌≤◌, Bool, true, false, ◌&&◌, ◌||◌, Option, Some, None, refl, subst, inl, inr, arith}
+use Rattle.std.proofs.Common.{◌≡◌, ℕ, ◌+◌, ◌<◌, ◌≤◌, Bool, true, false, ◌&&◌, ◌||◌, Option, Some, None, refl, subst, inl, inr, arith}
 use Rattle.std.specs.Prelude.{◌⊎◌, ◌==◌, is_some, nat_lt, nat_le}
 use Rattle.std.specs.Option.{option_map, option_or}
-use Rattle.std.proofs.lemmas.Bool.{both_ways, and_parts, or_cases, or_parts, eqb-true, ne_eqb, cases_eq, leb-true, lt-ltb, le-leb}
+use Rattle.std.proofs.lemmas.Bool.{both_ways, and_parts, or_cases, or_parts, eqb-true, ne_eqb, cases_eq, leb-true, ltb-true, lt-ltb, le-leb}
 use Rattle.s7_base.specs.declared.statement.Statement.{Statement}
 use Rattle.s7_base.specs.declared.blocks.BlockRef.{BlockRef}
 use Rattle.s7_base.specs.declared.blocks.CodeKind.TheVariants.{Fb, Fc}
@@ -31,7 +31,6 @@ use Rattle.statement_effects.specs.Reading.{bit_of, move_of, timer_of, timed_of,
 
 -- the operand is none of the places that are not supported
 pub record IsHere (s : Statement) : Type 0 where
-  local : is_in areas.Local s ≡ false
   data_block : is_in areas.Data s ≡ false
   instance : is_in areas.Instance s ≡ false
   input : is_in areas.PeripheralIn s ≡ false
@@ -43,17 +42,15 @@ pub record IsHere (s : Statement) : Type 0 where
 
 pub is_here : (s : Statement) → is_elsewhere s ≡ false → IsHere s
 is_here s out =
-    let a = is_in areas.Local s in
-    let b = is_in areas.Data s in
-    let c = is_in areas.Instance s in
-    let d = is_in areas.PeripheralIn s in
-    let e = is_in areas.PeripheralOut s in
-    let f = is_in areas.DataLength s in
-    let g = is_in areas.DataNumber s in
-    let h = is_in areas.InstanceLength s in
-    let i = is_in areas.InstanceNumber s in
-    let p8 = or_parts (((((((a || b) || c) || d) || e) || f) || g) || h) i out in
-    let p7 = or_parts ((((((a || b) || c) || d) || e) || f) || g) h p8.0 in
+    let a = is_in areas.Data s in
+    let b = is_in areas.Instance s in
+    let c = is_in areas.PeripheralIn s in
+    let d = is_in areas.PeripheralOut s in
+    let e = is_in areas.DataLength s in
+    let f = is_in areas.DataNumber s in
+    let g = is_in areas.InstanceLength s in
+    let h = is_in areas.InstanceNumber s in
+    let p7 = or_parts ((((((a || b) || c) || d) || e) || f) || g) h out in
     let p6 = or_parts (((((a || b) || c) || d) || e) || f) g p7.0 in
     let p5 = or_parts ((((a || b) || c) || d) || e) f p6.0 in
     let p4 = or_parts (((a || b) || c) || d) e p5.0 in
@@ -61,15 +58,14 @@ is_here s out =
     let p2 = or_parts (a || b) c p3.0 in
     let p1 = or_parts a b p2.0 in
     record {
-      local = p1.0;
-      data_block = p1.1;
-      instance = p2.1;
-      input = p3.1;
-      output = p4.1;
-      data_length = p5.1;
-      data_number = p6.1;
-      instance_length = p7.1;
-      instance_number = p8.1;
+      data_block = p1.0;
+      instance = p1.1;
+      input = p2.1;
+      output = p3.1;
+      data_length = p4.1;
+      data_number = p5.1;
+      instance_length = p6.1;
+      instance_number = p7.1;
     }
 
 -- the operand names this area, and so many bytes of it
@@ -82,9 +78,20 @@ within area size bytes s h =
     let parts = and_parts (is_in area s) (ends_by size bytes s) h in
     record { area = eqb-true s.area (area_number area) parts.0; fits = parts.1 }
 
--- bytes of memory that are supported lie in the inputs, the outputs or the bit memory
+-- the operand names a byte of the local data
+record IsLocal (s : Statement) : Type 0 where
+  area : s.area ≡ 4
+  fits : nat_le s.value 255 ≡ true
+
+-- bytes of memory that are supported lie in the inputs, the outputs, the bit memory or the local data
 abbrev InMemory : ℕ → Statement → Type 0
-InMemory bytes s = IsIn 1 64 bytes s ⊎ (IsIn 2 64 bytes s ⊎ IsIn 3 1024 bytes s)
+InMemory bytes s = IsIn 1 64 bytes s ⊎ (IsIn 2 64 bytes s ⊎ (IsIn 3 1024 bytes s ⊎ IsLocal s))
+
+in_locals : (locals bytes : ℕ) (s : Statement) → locals ≤ 256 → 0 < bytes → is_within areas.Local locals bytes s ≡ true → IsLocal s
+in_locals locals bytes s small some h =
+    let l = within areas.Local locals bytes s h in
+    let le : s.value + bytes ≤ locals = leb-true (s.value + bytes) locals l.fits in
+    record { area = l.area; fits = le-leb s.value 255 (omega arith) }
 
 no_data : (bytes : ℕ) (s : Statement) → IsHere s → is_of_data bytes s ≡ true → ⊥
 no_data bytes s out h =
@@ -93,8 +100,8 @@ no_data bytes s out h =
       | inr n ↦ both_ways (is_in areas.Instance s) out.instance (and_parts (is_in areas.Instance s) _ (and_parts (is_within areas.Instance 65536 bytes s) _ n).0).0
     ]
 
-in_cpu : (locals bytes : ℕ) (s : Statement) → IsHere s → is_of_cpu locals bytes s ≡ true → InMemory bytes s
-in_cpu locals bytes s out h =
+in_cpu : (locals bytes : ℕ) (s : Statement) → locals ≤ 256 → 0 < bytes → is_of_cpu locals bytes s ≡ true → InMemory bytes s
+in_cpu locals bytes s small some h =
     let i = is_within areas.Inputs 64 bytes s in
     let q = is_within areas.Outputs 64 bytes s in
     let m = is_within areas.Memory 1024 bytes s in
@@ -102,15 +109,15 @@ in_cpu locals bytes s out h =
     elim (or_cases ((i || q) || m) l h) [
       | inl iqm ↦ elim (or_cases (i || q) m iqm) [
         | inl iq ↦ elim (or_cases i q iq) [ inl x ↦ inl (within areas.Inputs 64 bytes s x) | inr x ↦ inr (inl (within areas.Outputs 64 bytes s x)) ]
-        | inr x ↦ inr (inr (within areas.Memory 1024 bytes s x))
+        | inr x ↦ inr (inr (inl (within areas.Memory 1024 bytes s x)))
       ]
-      | inr x ↦ absurd (both_ways (is_in areas.Local s) out.local (and_parts (is_in areas.Local s) (ends_by locals bytes s) x).0)
+      | inr x ↦ inr (inr (inr (in_locals locals bytes s small some x)))
     ]
 
-in_memory : (locals bytes : ℕ) (s : Statement) → IsHere s → is_memory locals bytes s ≡ true → InMemory bytes s
-in_memory locals bytes s out h =
+in_memory : (locals bytes : ℕ) (s : Statement) → locals ≤ 256 → 0 < bytes → IsHere s → is_memory locals bytes s ≡ true → InMemory bytes s
+in_memory locals bytes s small some out h =
     elim (or_cases (is_of_cpu locals bytes s && s.db == 0) (is_of_data bytes s) h) [
-      | inl x ↦ in_cpu locals bytes s out (and_parts (is_of_cpu locals bytes s) (s.db == 0) x).0
+      | inl x ↦ in_cpu locals bytes s small some (and_parts (is_of_cpu locals bytes s) (s.db == 0) x).0
       | inr x ↦ absurd (no_data bytes s out x)
     ]
 
@@ -131,10 +138,10 @@ numbered area most s h =
     record { area = eqb-true s.area (area_number area) (and_parts (is_in area s) (s.bit == 0) here.0).0; fits = parts.1 }
 
 -- a bit of memory, where it is allowed
-bit_parts : (locals : ℕ) (s : Statement) → IsHere s → is_bit locals s ≡ true → (nat_le s.bit 7 ≡ true) × InMemory 1 s
-bit_parts locals s out h =
+bit_parts : (locals : ℕ) (s : Statement) → locals ≤ 256 → IsHere s → is_bit locals s ≡ true → (nat_le s.bit 7 ≡ true) × InMemory 1 s
+bit_parts locals s small out h =
     let parts = and_parts (nat_le s.bit 7) (is_memory locals 1 s) h in
-    (parts.0, in_memory locals 1 s out parts.1)
+    (parts.0, in_memory locals 1 s small (omega arith) out parts.1)
 
 -- a timer or a counter
 either : (s : Statement) → is_timer_or_counter s ≡ true → IsNumber 9 255 s ⊎ IsNumber 10 255 s
@@ -282,30 +289,35 @@ Reads op s = is_some (operand_of s >>= means op) ≡ true
 read_bit : (op : Operation) (s : Statement) → takes op (operands.Bit no_bit) ≡ true → nat_le s.bit 7 ≡ true → InMemory 1 s → Reads op s
 read_bit op s h bit (inl i) = rw (i.area, below s.value 64 i.fits, bit) (bit_any op (bits.Area (record { area = I; at_byte = s.value; bit = s.bit })) h)
 read_bit op s h bit (inr (inl q)) = rw (q.area, below s.value 64 q.fits, bit) (bit_any op (bits.Area (record { area = Q; at_byte = s.value; bit = s.bit })) h)
-read_bit op s h bit (inr (inr m)) = rw (m.area, below s.value 1024 m.fits, bit) (bit_any op (bits.Area (record { area = M; at_byte = s.value; bit = s.bit })) h)
+read_bit op s h bit (inr (inr (inl m))) = rw (m.area, below s.value 1024 m.fits, bit) (bit_any op (bits.Area (record { area = M; at_byte = s.value; bit = s.bit })) h)
+read_bit op s h bit (inr (inr (inr l))) = rw (l.area, l.fits, bit) (bit_any op (bits.Local (record { at_byte = s.value; bit = s.bit })) h)
 
-bit : (op : Operation) (locals : ℕ) (s : Statement) → takes op (operands.Bit no_bit) ≡ true → IsHere s → is_bit locals s ≡ true → Reads op s
-bit op locals s h out allowed = let parts = bit_parts locals s out allowed in read_bit op s h parts.0 parts.1
+bit : (op : Operation) (locals : ℕ) (s : Statement) → takes op (operands.Bit no_bit) ≡ true → locals ≤ 256 → IsHere s → is_bit locals s ≡ true → Reads op s
+bit op locals s h small out allowed = let parts = bit_parts locals s small out allowed in read_bit op s h parts.0 parts.1
 
 read_byte : (op : Operation) (s : Statement) → takes op (operands.Value no_value) ≡ true → s.bit ≡ 8 → InMemory 1 s → Reads op s
 read_byte op s h unit (inl i) = rw (i.area, unit, i.fits) (value_any op (values.Area (record { area = I; at_byte = s.value; width = widths.Byte })) h)
 read_byte op s h unit (inr (inl q)) = rw (q.area, unit, q.fits) (value_any op (values.Area (record { area = Q; at_byte = s.value; width = widths.Byte })) h)
-read_byte op s h unit (inr (inr m)) = rw (m.area, unit, m.fits) (value_any op (values.Area (record { area = M; at_byte = s.value; width = widths.Byte })) h)
+read_byte op s h unit (inr (inr (inl m))) = rw (m.area, unit, m.fits) (value_any op (values.Area (record { area = M; at_byte = s.value; width = widths.Byte })) h)
+read_byte op s h unit (inr (inr (inr l))) = rw (l.area, l.fits, unit) (value_any op (values.Local (record { at_byte = s.value; width = widths.Byte })) h)
 
 read_word : (op : Operation) (s : Statement) → takes op (operands.Value no_value) ≡ true → s.bit ≡ 9 → InMemory 2 s → Reads op s
 read_word op s h unit (inl i) = rw (i.area, unit, i.fits) (value_any op (values.Area (record { area = I; at_byte = s.value; width = widths.Word })) h)
 read_word op s h unit (inr (inl q)) = rw (q.area, unit, q.fits) (value_any op (values.Area (record { area = Q; at_byte = s.value; width = widths.Word })) h)
-read_word op s h unit (inr (inr m)) = rw (m.area, unit, m.fits) (value_any op (values.Area (record { area = M; at_byte = s.value; width = widths.Word })) h)
+read_word op s h unit (inr (inr (inl m))) = rw (m.area, unit, m.fits) (value_any op (values.Area (record { area = M; at_byte = s.value; width = widths.Word })) h)
+read_word op s h unit (inr (inr (inr l))) = rw (l.area, l.fits, unit) (value_any op (values.Local (record { at_byte = s.value; width = widths.Word })) h)
 
 read_double : (op : Operation) (s : Statement) → takes op (operands.Value no_value) ≡ true → s.bit ≡ 10 → InMemory 4 s → Reads op s
 read_double op s h unit (inl i) = rw (i.area, unit, i.fits) (value_any op (values.Area (record { area = I; at_byte = s.value; width = widths.Double })) h)
 read_double op s h unit (inr (inl q)) = rw (q.area, unit, q.fits) (value_any op (values.Area (record { area = Q; at_byte = s.value; width = widths.Double })) h)
-read_double op s h unit (inr (inr m)) = rw (m.area, unit, m.fits) (value_any op (values.Area (record { area = M; at_byte = s.value; width = widths.Double })) h)
+read_double op s h unit (inr (inr (inl m))) = rw (m.area, unit, m.fits) (value_any op (values.Area (record { area = M; at_byte = s.value; width = widths.Double })) h)
+read_double op s h unit (inr (inr (inr l))) = rw (l.area, l.fits, unit) (value_any op (values.Local (record { at_byte = s.value; width = widths.Double })) h)
 
-value : (op : Operation) (locals : ℕ) (s : Statement) → takes op (operands.Value no_value) ≡ true → IsHere s → is_value locals s ≡ true → Reads op s
-value op locals s h out allowed =
+value : (op : Operation) (locals : ℕ) (s : Statement) → takes op (operands.Value no_value) ≡ true → locals ≤ 256 → IsHere s → is_value locals s ≡ true → Reads op s
+value op locals s h small out allowed =
     let parts = and_parts (nat_lt 0 (unit_bytes s.bit)) (is_memory locals (unit_bytes s.bit) s) allowed in
-    let here : InMemory (unit_bytes s.bit) s = in_memory locals (unit_bytes s.bit) s out parts.1 in
+    let some : 0 < unit_bytes s.bit = ltb-true 0 (unit_bytes s.bit) parts.0 in
+    let here : InMemory (unit_bytes s.bit) s = in_memory locals (unit_bytes s.bit) s small some out parts.1 in
     elim (units s.bit parts.0) [
       | inl e ↦ read_byte op s h e (subst (λ u. InMemory (unit_bytes u) s) e here)
       | inr r ↦ elim r [
@@ -361,8 +373,8 @@ constant op s hw hd allowed =
       | inr x ↦ double op s hd (named areas.DoubleWord s x)
     ]
 
-loaded : (op : Operation) (locals : ℕ) (s : Statement) → takes_all kinds.Loaded op ≡ true → IsHere s → allows kinds.Loaded locals s ≡ true → Reads op s
-loaded op locals s t out h =
+loaded : (op : Operation) (locals : ℕ) (s : Statement) → takes_all kinds.Loaded op ≡ true → locals ≤ 256 → IsHere s → allows kinds.Loaded locals s ≡ true → Reads op s
+loaded op locals s t small out h =
     let t0 = and_parts (takes op (operands.Value no_value)) _ t in
     let t1 = and_parts (takes op (operands.Word 0)) _ t0.1 in
     let t2 = and_parts (takes op (operands.DoubleWord 0)) _ t1.1 in
@@ -378,7 +390,7 @@ loaded op locals s t out h =
         | inl w ↦ elim (or_cases ((a || b) || c) d w) [
           | inl x ↦ elim (or_cases (a || b) c x) [
             | inl y ↦ elim (or_cases a b y) [
-              | inl z ↦ value op locals s t0.0 out z
+              | inl z ↦ value op locals s t0.0 small out z
               | inr z ↦ absurd (both_ways (is_in areas.PeripheralIn s) out.input (peripheral_in areas.PeripheralIn s z))
             ]
             | inr y ↦ constant op s t1.0 t2.0 y
@@ -390,80 +402,80 @@ loaded op locals s t out h =
       | inr v ↦ absurd (no_about s out v)
     ]
 
-stored : (op : Operation) (locals : ℕ) (s : Statement) → takes_all kinds.Stored op ≡ true → IsHere s → allows kinds.Stored locals s ≡ true → Reads op s
-stored op locals s t out h =
+stored : (op : Operation) (locals : ℕ) (s : Statement) → takes_all kinds.Stored op ≡ true → locals ≤ 256 → IsHere s → allows kinds.Stored locals s ≡ true → Reads op s
+stored op locals s t small out h =
     let parts = and_parts (takes op (operands.Value no_value)) (takes op operands.StatusWord) t in
     elim (or_cases (is_value locals s || is_peripheral areas.PeripheralOut s) (is_exactly areas.StatusWord 0 s) h) [
       | inl x ↦ elim (or_cases (is_value locals s) (is_peripheral areas.PeripheralOut s) x) [
-        | inl y ↦ value op locals s parts.0 out y
+        | inl y ↦ value op locals s parts.0 small out y
         | inr y ↦ absurd (both_ways (is_in areas.PeripheralOut s) out.output (peripheral_in areas.PeripheralOut s y))
       ]
       | inr x ↦ status_word op s parts.1 (exactly_named areas.StatusWord 0 s x)
     ]
 
-checked : (op : Operation) (locals : ℕ) (s : Statement) → takes_all kinds.CheckedBit op ≡ true → IsHere s → allows kinds.CheckedBit locals s ≡ true → Reads op s
-checked op locals s t out h =
+checked : (op : Operation) (locals : ℕ) (s : Statement) → takes_all kinds.CheckedBit op ≡ true → locals ≤ 256 → IsHere s → allows kinds.CheckedBit locals s ≡ true → Reads op s
+checked op locals s t small out h =
     let t0 = and_parts (takes op (operands.Bit no_bit)) _ t in
     let t1 = and_parts (takes op (operands.Timer 0)) _ t0.1 in
     let t2 = and_parts (takes op (operands.Counter 0)) (takes op (operands.Status 0)) t1.1 in
     elim (or_cases (is_bit locals s || is_timer_or_counter s) (is_up_to areas.Status 9 s) h) [
       | inl x ↦ elim (or_cases (is_bit locals s) (is_timer_or_counter s) x) [
-        | inl b ↦ bit op locals s t0.0 out b
+        | inl b ↦ bit op locals s t0.0 small out b
         | inr y ↦ timer_or_counter op s t1.0 t2.0 y
       ]
       | inr z ↦ status_bit op s t2.1 (numbered areas.Status 9 s z)
     ]
 
 -- an operation that takes each form of a kind means an instruction with each operand of the kind
-pub reads : (kind : OperandKind) (op : Operation) (locals : ℕ) (s : Statement) → takes_all kind op ≡ true → IsHere s → allows kind locals s ≡ true → Reads op s
-reads kinds.Nothing op locals s t out h = alone op s t (exactly_named areas.Nothing 0 s h)
-reads kinds.CheckedBit op locals s t out h = checked op locals s t out h
-reads kinds.WrittenBit op locals s t out h = bit op locals s t out h
-reads kinds.SetBit op locals s t out h =
+pub reads : (kind : OperandKind) (op : Operation) (locals : ℕ) (s : Statement) → takes_all kind op ≡ true → locals ≤ 256 → IsHere s → allows kind locals s ≡ true → Reads op s
+reads kinds.Nothing op locals s t small out h = alone op s t (exactly_named areas.Nothing 0 s h)
+reads kinds.CheckedBit op locals s t small out h = checked op locals s t small out h
+reads kinds.WrittenBit op locals s t small out h = bit op locals s t small out h
+reads kinds.SetBit op locals s t small out h =
     let parts = and_parts (takes op (operands.Bit no_bit)) (takes op (operands.Counter 0)) t in
     elim (or_cases (is_bit locals s) (is_up_to areas.Counter 255 s) h) [
-      | inl b ↦ bit op locals s parts.0 out b
+      | inl b ↦ bit op locals s parts.0 small out b
       | inr c ↦ counter op s parts.1 (numbered areas.Counter 255 s c)
     ]
-reads kinds.ResetBit op locals s t out h =
+reads kinds.ResetBit op locals s t small out h =
     let t0 = and_parts (takes op (operands.Bit no_bit)) _ t in
     let t1 = and_parts (takes op (operands.Timer 0)) (takes op (operands.Counter 0)) t0.1 in
     elim (or_cases (is_bit locals s) (is_timer_or_counter s) h) [
-      | inl b ↦ bit op locals s t0.0 out b
+      | inl b ↦ bit op locals s t0.0 small out b
       | inr y ↦ timer_or_counter op s t1.0 t1.1 y
     ]
-reads kinds.Loaded op locals s t out h = loaded op locals s t out h
-reads kinds.Stored op locals s t out h = stored op locals s t out h
-reads kinds.Coded op locals s t out h =
+reads kinds.Loaded op locals s t small out h = loaded op locals s t small out h
+reads kinds.Stored op locals s t small out h = stored op locals s t small out h
+reads kinds.Coded op locals s t small out h =
     let parts = and_parts (takes op (operands.Timer 0)) (takes op (operands.Counter 0)) t in timer_or_counter op s parts.0 parts.1 h
-reads kinds.Addend op locals s t out h =
+reads kinds.Addend op locals s t small out h =
     let parts = and_parts (takes op (operands.Word 0)) (takes op (operands.DoubleWord 0)) t in constant op s parts.0 parts.1 h
-reads (kinds.UpTo most) op locals s t out h =
+reads (kinds.UpTo most) op locals s t small out h =
     let parts = and_parts (nat_le most 65535) (takes op (operands.Word 0)) t in word_up_to op most s parts.1 (leb-true most 65535 parts.0) h
-reads (kinds.Exactly number) op locals s t out h =
+reads (kinds.Exactly number) op locals s t small out h =
     let parts = and_parts (nat_le number 65535) (takes op (operands.Word 0)) t in
     let e : s.value ≡ number = eqb-true s.value number (and_parts (is_number areas.Word s) (s.value == number) h).1 in
     let le : number ≤ 65535 = leb-true number 65535 parts.0 in
     word op s parts.1 (record { area = exactly_named areas.Word number s h; fits = le-leb s.value 65535 (omega arith) })
-reads (kinds.AtMost most) op locals s t out h =
+reads (kinds.AtMost most) op locals s t small out h =
     let t0 = and_parts (nat_le most 65535) _ t in
     let t1 = and_parts (takes op operands.Nothing) (takes op (operands.Word 0)) t0.1 in
     elim (or_cases (is_exactly areas.Nothing 0 s) (is_up_to areas.Word most s) h) [
       | inl x ↦ alone op s t1.0 (exactly_named areas.Nothing 0 s x)
       | inr x ↦ word_up_to op most s t1.1 (leb-true most 65535 t0.0) x
     ]
-reads kinds.Mask op locals s t out h =
+reads kinds.Mask op locals s t small out h =
     let parts = and_parts (takes op operands.Nothing) (takes op (operands.DoubleWord 0)) t in
     elim (or_cases (is_exactly areas.Nothing 0 s) (is_number areas.DoubleWord s) h) [
       | inl x ↦ alone op s parts.0 (exactly_named areas.Nothing 0 s x)
       | inr x ↦ double op s parts.1 (named areas.DoubleWord s x)
     ]
-reads kinds.Target op locals s t out h = target op s t (named areas.Target s h)
-reads kinds.Timer op locals s t out h = timer op s t (numbered areas.Timer 255 s h)
-reads kinds.Counter op locals s t out h = counter op s t (numbered areas.Counter 255 s h)
-reads kinds.DataBlock op locals s t out h = absurd cc
-reads kinds.InstanceBlock op locals s t out h = absurd cc
-reads kinds.Function op locals s t out h = function op s t (numbered areas.Function 255 s h)
-reads kinds.FunctionBlock op locals s t out h = function_block op s t (numbered areas.FunctionBlock 255 s h)
-reads kinds.FunctionBlockWithData op locals s t out h = absurd cc
-reads (kinds.SystemFunction number) op locals s t out h = absurd cc
+reads kinds.Target op locals s t small out h = target op s t (named areas.Target s h)
+reads kinds.Timer op locals s t small out h = timer op s t (numbered areas.Timer 255 s h)
+reads kinds.Counter op locals s t small out h = counter op s t (numbered areas.Counter 255 s h)
+reads kinds.DataBlock op locals s t small out h = absurd cc
+reads kinds.InstanceBlock op locals s t small out h = absurd cc
+reads kinds.Function op locals s t small out h = function op s t (numbered areas.Function 255 s h)
+reads kinds.FunctionBlock op locals s t small out h = function_block op s t (numbered areas.FunctionBlock 255 s h)
+reads kinds.FunctionBlockWithData op locals s t small out h = absurd cc
+reads (kinds.SystemFunction number) op locals s t small out h = absurd cc

@@ -13,7 +13,7 @@ use Rattle.bit_unit.specs.declared.unit.BitFault.TheVariants.{NestingFull, Nesti
 use Rattle.bit_unit.specs.Steps.{Step, group_opened, group_closed, zone_opened, zone_closed}
 use Rattle.statement_effects.specs.declared.areas.Registers.{Registers}
 use Rattle.statement_effects.specs.State.{Memory}
-use Rattle.statement_effects.specs.declared.instruction.BitPlace.{BitPlace}
+use Rattle.statement_effects.specs.declared.instruction.BitOperand.{BitOperand}
 use Rattle.statement_effects.specs.declared.instruction.BitInstruction.{BitInstruction}
 use Rattle.statement_effects.specs.declared.instruction.BitInstruction.TheVariants as bits
 use Rattle.statement_effects.specs.declared.instruction.StatusInstruction.{StatusInstruction}
@@ -23,7 +23,7 @@ use Rattle.statement_effects.specs.declared.instruction.GroupInstruction.TheVari
 use Rattle.statement_effects.specs.Areas.{bit_at, with_bit_at, with_status, is_off}
 
 -- the bit at a place is set where this holds
-abbrev pub with_bit_where : Bool → Memory → BitPlace → Bool → Memory
+abbrev pub with_bit_where : Bool → Memory → BitOperand → Bool → Memory
 with_bit_where condition memory place value = if condition then with_bit_at memory place value else memory
 
 abbrev pub is_rising : Edge → Bool
@@ -31,7 +31,7 @@ is_rising edges.Rising = true
 is_rising edges.Falling = false
 
 -- a statement on the bit at a place: in a zone that is off `=` writes 0, and S and R write nothing
-abbrev pub effect_bit : BitInstruction → BitPlace → Memory → Memory
+abbrev pub effect_bit : BitInstruction → BitOperand → Memory → Memory
 effect_bit (bits.Check how) place memory =
     with_status memory (checked how (bit_at memory place) memory.registers.status)
 effect_bit (bits.Write writes.Assign) place memory =

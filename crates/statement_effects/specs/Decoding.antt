@@ -4,6 +4,7 @@ use Rattle.s7_base.specs.declared.statement.Statement.{Statement}
 use Rattle.instruction_set.specs.declared.operands.OperandArea.TheVariants as areas
 use Rattle.s7_base.specs.Operands.{is_in}
 use Rattle.s7_events.specs.Optional.{◌>>=◌}
+use Rattle.std.specs.Option.{option_map}
 use Rattle.s7_base.specs.declared.blocks.CodeKind.{CodeKind}
 use Rattle.s7_base.specs.declared.blocks.CodeKind.TheVariants.{Fb, Fc}
 use Rattle.statement_effects.specs.declared.instruction.ByteArea.{ByteArea}
@@ -41,6 +42,14 @@ value_operand area s = do
 abbrev pub byte_operand : ByteArea → Statement → Option Operand
 byte_operand area s = if nat_le s.bit 7 then bit_operand area s else value_operand area s
 
+-- a bit or a value of the local data, which has 256 bytes at most
+abbrev pub local_operand : Statement → Option Operand
+local_operand s =
+    if nat_le s.value 255
+    then (if nat_le s.bit 7 then Some (operands.Bit (bits.Local (record { at_byte = s.value; bit = s.bit })))
+    else option_map (λ width. operands.Value (values.Local (record { at_byte = s.value; width = width }))) (width_of s.bit))
+    else None
+
 -- a number or a constant, at most this
 abbrev pub up_to : ℕ → (ℕ → Operand) → Statement → Option Operand
 up_to most operand s = if nat_le s.value most then Some (operand s.value) else None
@@ -70,4 +79,5 @@ operand_of s =
     if is_in areas.Inputs s then byte_operand I s
     else if is_in areas.Outputs s then byte_operand Q s
     else if is_in areas.Memory s then byte_operand M s
+    else if is_in areas.Local s then local_operand s
     else other_operand s

@@ -4,6 +4,7 @@ pub mod CounterEffect
 pub mod Decoding
 pub mod Effect
 pub mod JumpEffect
+pub mod Levels
 pub mod MoveEffect
 pub mod NumberEffect
 pub mod Placed

@@ -8,7 +8,7 @@ use Rattle.statement_effects.specs.declared.instruction.MoveInstruction.{MoveIns
 use Rattle.statement_effects.specs.declared.instruction.MoveInstruction.TheVariants.{Load, Store}
 use Rattle.statement_effects.specs.declared.instruction.DirectInstruction.{DirectInstruction}
 use Rattle.statement_effects.specs.declared.instruction.DirectInstruction.TheVariants.{LoadConstant, LoadStatus, StoreStatus}
-use Rattle.statement_effects.specs.declared.instruction.ValuePlace.{ValuePlace}
+use Rattle.statement_effects.specs.declared.instruction.ValueOperand.{ValueOperand}
 use Rattle.statement_effects.specs.declared.instruction.AccuInstruction.{AccuInstruction}
 use Rattle.statement_effects.specs.declared.instruction.AccuInstruction.TheVariants as accus
 use Rattle.statement_effects.specs.Areas.{value_at, with_value_at, with_accus, with_status, is_off}
@@ -22,7 +22,7 @@ abbrev pub transferred : Memory → ℕ
 transferred memory = if is_off memory then 0 else memory.registers.accus.accu1
 
 -- L and T of the value at a place
-abbrev pub effect_move : MoveInstruction → ValuePlace → Memory → Memory
+abbrev pub effect_move : MoveInstruction → ValueOperand → Memory → Memory
 effect_move Load place memory = with_loaded memory (value_at memory place)
 effect_move Store place memory = with_value_at memory place (transferred memory)
 

@@ -2,9 +2,11 @@
 use Rattle.std.specs.Prelude.{ℕ, List}
 use Rattle.timers.specs.State.{TimerState}
 use Rattle.counters.specs.State.{CounterState}
+use Rattle.level_stack.specs.Levels.{LevelState}
 use Rattle.statement_effects.specs.declared.areas.Registers.{Registers}
 
--- the areas and the registers: the bytes of the inputs, the outputs and the bit memory, the timers, the counters, and the registers
+-- the areas and the registers: the bytes of the inputs, the outputs and the bit memory, the timers, the counters, the registers,
+-- and the levels with their blocks, each block with its local data
 pub record Memory : Type 0 where
   pub inputs : List ℕ
   pub outputs : List ℕ
@@ -12,3 +14,4 @@ pub record Memory : Type 0 where
   pub timers : List TimerState
   pub counters : List CounterState
   pub registers : Registers
+  pub levels : List LevelState

@@ -1,5 +1,5 @@
 -- Which statements are supported, and what is said of them.
-use Rattle.std.specs.Prelude.{◌≡◌, ℕ, ◌&&◌, ◌||◌, Bool, true, false, not, Option, Some, None, is_some}
+use Rattle.std.specs.Prelude.{◌≡◌, ◌≤◌, ℕ, ◌&&◌, ◌||◌, Bool, true, false, not, Option, Some, None, is_some}
 use Rattle.s7_base.specs.declared.statement.Statement.{Statement}
 use Rattle.instruction_set.specs.declared.table.InstructionRow.{InstructionRow}
 use Rattle.instruction_set.specs.declared.operation.Operation.{Operation}
@@ -11,11 +11,10 @@ use Rattle.s7_base.specs.Operands.{is_in}
 use Rattle.s7_base.specs.Statements.{is_statement}
 use Rattle.statement_effects.specs.Reading.{instruction_of}
 
--- the operand is of local data, of a data block or of the peripherals, or is the length or number of an opened data block
+-- the operand is of a data block or of the peripherals, or is the length or number of an opened data block
 abbrev pub is_elsewhere : Statement → Bool
 is_elsewhere s =
-    is_in areas.Local s || is_in areas.Data s || is_in areas.Instance s
-    || is_in areas.PeripheralIn s || is_in areas.PeripheralOut s
+    is_in areas.Data s || is_in areas.Instance s || is_in areas.PeripheralIn s || is_in areas.PeripheralOut s
     || is_in areas.DataLength s || is_in areas.DataNumber s || is_in areas.InstanceLength s || is_in areas.InstanceNumber s
 
 -- an operation that is not supported yet: it opens or exchanges data blocks, calls a function block with its data block, or
@@ -37,6 +36,6 @@ is_unsupported_row (Some row) = is_unsupported row.operation
 abbrev pub is_supported : Statement → Bool
 is_supported s = not (is_elsewhere s) && not (is_unsupported_row (row_of s.op))
 
--- each statement of the language that is supported means an instruction
+-- each statement of the language that is supported means an instruction; a block has 256 bytes of local data at most
 abbrev pub SupportedMeans : Type 0
-SupportedMeans = (locals : ℕ) (s : Statement) → is_statement locals s ≡ true → is_supported s ≡ true → is_some (instruction_of s) ≡ true
+SupportedMeans = (locals : ℕ) (s : Statement) → locals ≤ 256 → is_statement locals s ≡ true → is_supported s ≡ true → is_some (instruction_of s) ≡ true

@@ -6,6 +6,7 @@ use crate::instruction::ByteArea;
 use accumulators::Accus;
 use bit_unit::BitUnit;
 use counters::Counter;
+use level_stack::Levels;
 use status_word::StatusWord;
 use std::marker::Model;
 use timers::Timer;
@@ -31,7 +32,8 @@ impl Registers {
     }
 }
 
-/// The areas and the registers: the input image, the output image, bit memory, timers, counters and registers.
+/// The areas and the registers: the input image, the output image, bit memory, timers, counters and registers; and the levels
+/// with the blocks that have begun, each with its local data.
 #[derive(Debug, Drop)]
 pub struct Memory {
     pub(crate) inputs: [u8; 64],
@@ -40,6 +42,7 @@ pub struct Memory {
     pub(crate) timers: [Timer; 256],
     pub(crate) counters: [Counter; 256],
     pub(crate) registers: Registers,
+    pub(crate) levels: Levels,
 }
 
 impl Model for Memory {
@@ -47,11 +50,11 @@ impl Model for Memory {
 
     ghost Value = { state.Memory };
 
-    ghost view = { λ m. record { inputs = m.inputs; outputs = m.outputs; flags = m.flags; timers = m.timers; counters = m.counters; registers = m.registers } };
+    ghost view = { λ m. record { inputs = m.inputs; outputs = m.outputs; flags = m.flags; timers = m.timers; counters = m.counters; registers = m.registers; levels = m.levels } };
 }
 
 impl Memory {
-    /// Returns what a CPU sees at its start: all areas are 0, and no timer and no counter was used.
+    /// Returns what a CPU sees at its start: all areas are 0, no timer and no counter was used, and no block has begun.
     pub fn start() -> Memory
         ensures { result ≡ start_memory }
     {
@@ -62,6 +65,7 @@ impl Memory {
             timers: [Timer::new(); 256],
             counters: [Counter::new(); 256],
             registers: Registers::clear(),
+            levels: Levels::new(),
         }
     }
 

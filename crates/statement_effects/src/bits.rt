@@ -1,7 +1,7 @@
 //! Statements on bits, on the status word, and brackets.
 ghost use Rattle.std.specs.Prelude.{◌≡◌, ◌<◌, ◌≤◌, not, ◌&&◌, OnOk, OnErr, IfErr, Ok, Err};
-ghost use Rattle.statement_effects.specs.Areas.{bit_of, with_bit, bit_at, with_bit_at, is_off};
-ghost use Rattle.statement_effects.specs.Placed.{IsBitPlaced, IsBitOperand, HasNumber};
+ghost use Rattle.statement_effects.specs.Areas.{bit_of, with_bit, area_bit_at, with_area_bit_at, bit_at, with_bit_at, is_off};
+ghost use Rattle.statement_effects.specs.Placed.{IsBitPlaced, IsBitOperand, IsBitThere, HasNumber};
 ghost use Rattle.statement_effects.specs.Resolving.{resolve_bit, at_bit};
 ghost use Rattle.statement_effects.specs.BitEffect.{with_bit_where, is_rising, effect_bit, status_operand, effect_status, error_of, effect_group};
 ghost use Rattle.statement_effects.specs.declared.instruction.BitInstruction.TheVariants as bits;
@@ -47,9 +47,9 @@ impl Memory {
         self.registers.unit.zone_off()
     }
 
-    fn read_bit(&self, place: BitPlace) -> bool
+    fn read_area_bit(&self, place: BitPlace) -> bool
         requires { IsBitPlaced place }
-        ensures { result ≡ bit_at self.now place }
+        ensures { result ≡ area_bit_at self.now place }
     {
         let at = place.at_byte as usize;
         let byte = match place.area {
@@ -60,9 +60,19 @@ impl Memory {
         bit_from(byte, place.bit)
     }
 
-    fn write_bit(&mut self, place: BitPlace, value: bool)
+    fn read_bit(&self, place: BitOperand) -> bool
+        requires { IsBitThere self.now place }
+        ensures { result ≡ bit_at self.now place }
+    {
+        match place {
+            BitOperand::Area(place) => self.read_area_bit(place),
+            BitOperand::Local(place) => bit_from(self.local_byte(place.at_byte), place.bit),
+        }
+    }
+
+    fn write_area_bit(&mut self, place: BitPlace, value: bool)
         requires { IsBitPlaced place }
-        ensures { self.new ≡ with_bit_at self.old place value }
+        ensures { self.new ≡ with_area_bit_at self.old place value }
     {
         let at = place.at_byte as usize;
         match place.area {
@@ -72,9 +82,22 @@ impl Memory {
         }
     }
 
+    fn write_bit(&mut self, place: BitOperand, value: bool)
+        requires { IsBitThere self.old place }
+        ensures { self.new ≡ with_bit_at self.old place value }
+    {
+        match place {
+            BitOperand::Area(place) => self.write_area_bit(place, value),
+            BitOperand::Local(place) => {
+                let byte = byte_with(self.local_byte(place.at_byte), place.bit, value);
+                self.put_local_byte(place.at_byte, byte);
+            }
+        }
+    }
+
     /// `S` and `R`: the bit is written at RLO 1, in no zone that is off.
-    fn write_bit_set(&mut self, place: BitPlace, value: bool)
-        requires { IsBitPlaced place }
+    fn write_bit_set(&mut self, place: BitOperand, value: bool)
+        requires { IsBitThere self.old place }
         ensures written { self.new ≡ with_bit_where (self.old.registers.status.rlo && not (is_off self.old)) self.old place value }
         ensures registers { self.new.registers ≡ self.old.registers }
     {
@@ -84,8 +107,8 @@ impl Memory {
     }
 
     /// `=`, `S` and `R` of the bit at a place.
-    fn execute_write(&mut self, how: BitWrite, place: BitPlace)
-        requires { IsBitPlaced place }
+    fn execute_write(&mut self, how: BitWrite, place: BitOperand)
+        requires { IsBitThere self.old place }
         ensures { self.new ≡ effect_bit (bits.Write how) place self.old }
     {
         match how {
@@ -100,8 +123,8 @@ impl Memory {
     }
 
     /// A statement on the bit at a place.
-    fn execute_at_bit(&mut self, i: BitInstruction, place: BitPlace)
-        requires { IsBitPlaced place }
+    fn execute_at_bit(&mut self, i: BitInstruction, place: BitOperand)
+        requires { IsBitThere self.old place }
         ensures { self.new ≡ effect_bit i place self.old }
     {
         match i {

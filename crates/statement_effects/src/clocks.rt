@@ -1,5 +1,6 @@
 //! Statements on timers.
 ghost use Rattle.std.specs.Prelude.{◌≡◌, OnOk, OnErr, IfErr, Ok, Err, ◌%◌};
+ghost use Rattle.level_stack.specs.Levels.{block_counts};
 ghost use Rattle.statement_effects.specs.TimerEffect.{timer_at, with_timer, timer_after, effect_timer, effect_start, effect_timed};
 
 use crate::Memory;
@@ -73,6 +74,8 @@ impl Memory {
     /// Error 1 is a digit above 9, where a run begins. Nothing changes.
     pub fn execute_timed(&mut self, op: TimedOperation, n: u8, moment: u64) -> Result<(), u8>
         ensures ok { OnOk result (effect_timed op n moment self.old ≡ Ok self.new) }
+        // it begins and ends no block
+        ensures blocks { block_counts self.new.levels ≡ block_counts self.old.levels }
         ensures err { IfErr result (λ error. effect_timed op n moment self.old ≡ Err error) }
         ensures same { OnErr result (self.new ≡ self.old) }
     {

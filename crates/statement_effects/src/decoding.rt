@@ -1,13 +1,14 @@
 //! The operands of stored statements.
 ghost use Rattle.std.specs.Prelude.{◌≡◌, ◌≤◌, IfSome};
 ghost use Rattle.s7_base.specs.Operands.{is_in};
+ghost use Rattle.level_stack.specs.Values.{IsWidth};
 ghost use Rattle.statement_effects.specs.Areas.{size_of, bytes_in};
-ghost use Rattle.statement_effects.specs.Decoding.{width_of, bit_operand, value_operand, byte_operand, up_to, block_operand, other_operand, operand_of};
+ghost use Rattle.statement_effects.specs.Decoding.{width_of, bit_operand, value_operand, byte_operand, local_operand, up_to, block_operand, other_operand, operand_of};
 ghost use Rattle.statement_effects.specs.Placed.{IsOperand};
 ghost use Rattle.statement_effects.specs.declared.instruction.Operand.TheVariants as operands;
 
 use crate::instruction::{
-    BitOperand, BitPlace, ByteArea, Operand, ValueOperand, ValuePlace, Width,
+    BitOperand, BitPlace, ByteArea, LocalBit, LocalValue, Operand, ValueOperand, ValuePlace, Width,
 };
 use instruction_set::OperandArea;
 use s7_base::{BlockRef, CodeKind, Statement};
@@ -26,8 +27,9 @@ impl ByteArea {
 
 impl Width {
     /// How many bytes a value has.
-    fn bytes(self) -> u16
-        ensures { result ≡ bytes_in self }
+    pub(crate) fn bytes(self) -> u8
+        ensures bytes { result ≡ bytes_in self }
+        ensures width { IsWidth result }
     {
         match self {
             Width::Byte => 1,
@@ -94,6 +96,24 @@ fn byte_operand(area: ByteArea, s: &Statement) -> Option<Operand>
     } else {
         value_operand(area, s)
     }
+}
+
+/// A bit or a value of the local data.
+fn local_operand(s: &Statement) -> Option<Operand>
+    ensures operand { result ≡ local_operand s.now }
+    ensures placed { IfSome result IsOperand }
+{
+    let at_byte = u8::try_from(s.value).ok()?;
+    if s.bit > 7 {
+        let width = width_of(s.bit)?;
+        let place = LocalValue { at_byte, width };
+        return Some(Operand::Value(ValueOperand::Local(place)));
+    }
+    let place = LocalBit {
+        at_byte,
+        bit: s.bit,
+    };
+    Some(Operand::Bit(BitOperand::Local(place)))
 }
 
 fn timer_operand(s: &Statement) -> Option<Operand>
@@ -180,6 +200,8 @@ pub(crate) fn operand_of(s: &Statement) -> Option<Operand>
         byte_operand(ByteArea::Q, s)
     } else if is_in(s, OperandArea::Memory) {
         byte_operand(ByteArea::M, s)
+    } else if is_in(s, OperandArea::Local) {
+        local_operand(s)
     } else {
         other_operand(s)
     }

@@ -1,5 +1,6 @@
 //! What a statement does.
 ghost use Rattle.std.specs.Prelude.{◌≡◌, OnOk, IfErr};
+ghost use Rattle.level_stack.specs.Levels.{block_counts};
 ghost use Rattle.statement_effects.specs.Placed.{HasOperand};
 ghost use Rattle.statement_effects.specs.Effect.{effect, effect_if};
 
@@ -57,6 +58,8 @@ impl Memory {
     /// Does what a decoded statement does, and returns where it leads. A statement that needs the moment changes nothing yet.
     pub fn perform(&mut self, statement: &Decoded) -> Flow
         ensures effect { effect_if statement.now self.old ≡ (self.new, result) }
+        // it begins and ends no block
+        ensures blocks { block_counts self.new.levels ≡ block_counts self.old.levels }
         ensures asks { result ≡ Flow.AskNow → self.new ≡ self.old }
     {
         match statement.instruction() {

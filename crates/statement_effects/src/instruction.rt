@@ -41,11 +41,27 @@ pub struct ValuePlace {
     pub width: Width,
 }
 
+/// A bit of the local data of the block that runs: the byte is 0 to 255, and the bit is 0 to 7.
+#[derive(Clone, Copy, Debug, PartialEq, Eq)]
+pub struct LocalBit {
+    pub at_byte: u8,
+    pub bit: u8,
+}
+
+/// A value of the local data of the block that runs, by its first byte, 0 to 255.
+#[derive(Clone, Copy, Debug, PartialEq, Eq)]
+pub struct LocalValue {
+    pub at_byte: u8,
+    pub width: Width,
+}
+
 /// A bit that a statement names. Its place is found when the statement is executed.
 #[derive(Clone, Copy, Debug, PartialEq, Eq)]
 pub enum BitOperand {
     /// A bit of an area whose bytes are always there.
     Area(BitPlace),
+    /// A bit of the local data of the block that runs.
+    Local(LocalBit),
 }
 
 /// A value that a statement names. Its place is found when the statement is executed.
@@ -53,6 +69,8 @@ pub enum BitOperand {
 pub enum ValueOperand {
     /// A value of an area whose bytes are always there.
     Area(ValuePlace),
+    /// A value of the local data of the block that runs.
+    Local(LocalValue),
 }
 
 /// The operand of a statement.
@@ -256,6 +274,9 @@ pub enum Instruction {
 
 /// The error of a digit above 9.
 pub(crate) const BAD_DIGIT: u8 = 1;
+
+/// The error of an address past the end of its bytes.
+pub(crate) const PAST_THE_END: u8 = 2;
 
 /// Where a statement leads.
 #[derive(Clone, Copy, Debug, PartialEq, Eq)]

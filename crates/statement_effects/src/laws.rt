@@ -3,7 +3,6 @@ ghost use Rattle.statement_effects.specs.Supported.{SupportedMeans};
 
 /// Each statement of the language that is supported means an instruction, so that in a program that is supported no statement
 /// is passed over.
-#[tactic(auto, using(crate::proofs::SupportedMeans::supported_means))]
 pub fn supported_statements_mean_instructions()
     ensures { SupportedMeans }
 {}

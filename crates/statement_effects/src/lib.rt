@@ -11,6 +11,8 @@ mod execute;
 mod instruction;
 mod jumps;
 mod laws;
+mod levels;
+mod locals;
 mod moves;
 mod numbers;
 mod reading;
@@ -21,10 +23,11 @@ pub use areas::{Memory, Registers};
 pub use decoded::{Decoded, DecodedBlock};
 pub use instruction::{
     AccuInstruction, BitInstruction, BitOperand, BitPlace, ByteArea, CounterOperation,
-    DirectInstruction, Flow, GroupInstruction, Instruction, JumpInstruction, MoveInstruction,
-    NumberInstruction, Operand, StatusInstruction, TimedOperation, TimerOperation, ValueOperand,
-    ValuePlace, Width, WordInstruction,
+    DirectInstruction, Flow, GroupInstruction, Instruction, JumpInstruction, LocalBit, LocalValue,
+    MoveInstruction, NumberInstruction, Operand, StatusInstruction, TimedOperation, TimerOperation,
+    ValueOperand, ValuePlace, Width, WordInstruction,
 };
+pub use level_stack::LevelFault;
 pub use laws::supported_statements_mean_instructions;
 pub use reading::instruction_of;
-pub use supported::is_supported;
+pub use supported::{is_local, is_supported};

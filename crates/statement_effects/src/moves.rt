@@ -1,7 +1,7 @@
 //! Loads, transfers, and moves between accumulators.
 ghost use Rattle.std.specs.Prelude.{◌≡◌, ◌+◌, ◌*◌, ◌<◌, ◌≤◌, ◌^◌, ◌%◌, length, slice_index, OnOk, OnErr, IfErr, Ok, Err};
-ghost use Rattle.statement_effects.specs.Areas.{value_in, with_value_in, value_at, with_value_at, bytes_in, is_off};
-ghost use Rattle.statement_effects.specs.Placed.{IsValuePlaced, IsValueOperand};
+ghost use Rattle.statement_effects.specs.Areas.{value_in, with_value_in, area_value_at, with_area_value_at, value_at, with_value_at, bytes_in, is_off};
+ghost use Rattle.statement_effects.specs.Placed.{IsValuePlaced, IsValueOperand, IsValueThere};
 ghost use Rattle.statement_effects.specs.Resolving.{resolve_value, at_value};
 ghost use Rattle.statement_effects.specs.MoveEffect.{with_loaded, transferred, effect_move, effect_direct, effect_accu};
 
@@ -58,9 +58,9 @@ fn put_value(bytes: &mut [u8], at: usize, width: Width, value: u32)
 }
 
 impl Memory {
-    fn read_value(&self, place: ValuePlace) -> u32
+    fn read_area_value(&self, place: ValuePlace) -> u32
         requires { IsValuePlaced place }
-        ensures { result ≡ value_at self.now place }
+        ensures { result ≡ area_value_at self.now place }
     {
         let at = place.at_byte as usize;
         match place.area {
@@ -70,15 +70,35 @@ impl Memory {
         }
     }
 
-    fn write_value(&mut self, place: ValuePlace, value: u32)
+    fn read_value(&self, place: ValueOperand) -> u32
+        requires { IsValueThere self.now place }
+        ensures { result ≡ value_at self.now place }
+    {
+        match place {
+            ValueOperand::Area(place) => self.read_area_value(place),
+            ValueOperand::Local(place) => self.local_value(place),
+        }
+    }
+
+    fn write_area_value(&mut self, place: ValuePlace, value: u32)
         requires { IsValuePlaced place }
-        ensures { self.new ≡ with_value_at self.old place value }
+        ensures { self.new ≡ with_area_value_at self.old place value }
     {
         let at = place.at_byte as usize;
         match place.area {
             ByteArea::I => put_value(&mut self.inputs, at, place.width, value),
             ByteArea::Q => put_value(&mut self.outputs, at, place.width, value),
             ByteArea::M => put_value(&mut self.flags, at, place.width, value),
+        }
+    }
+
+    fn write_value(&mut self, place: ValueOperand, value: u32)
+        requires { IsValueThere self.old place }
+        ensures { self.new ≡ with_value_at self.old place value }
+    {
+        match place {
+            ValueOperand::Area(place) => self.write_area_value(place, value),
+            ValueOperand::Local(place) => self.put_local_value(place, value),
         }
     }
 
@@ -100,8 +120,8 @@ impl Memory {
     }
 
     /// `L` and `T` of the value at a place.
-    fn execute_at_value(&mut self, i: MoveInstruction, place: ValuePlace)
-        requires { IsValuePlaced place }
+    fn execute_at_value(&mut self, i: MoveInstruction, place: ValueOperand)
+        requires { IsValueThere self.old place }
         ensures { self.new ≡ effect_move i place self.old }
     {
         match i {

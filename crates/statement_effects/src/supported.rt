@@ -2,6 +2,8 @@
 ghost use Rattle.std.specs.Prelude.{◌≡◌};
 ghost use Rattle.statement_effects.specs.Supported.{is_elsewhere, is_unsupported, is_unsupported_row, is_supported};
 ghost use Rattle.instruction_set.specs.Rows.{row_of};
+ghost use Rattle.instruction_set.specs.declared.operands.OperandArea.TheVariants as areas;
+ghost use Rattle.s7_base.specs.Operands.{is_in};
 
 use crate::decoding::is_in;
 use instruction_set::{BlockOperation, OperandArea, Operation, instruction_row};
@@ -25,13 +27,11 @@ fn is_unsupported(operation: Operation) -> bool
     }
 }
 
-/// Whether the operand is of local data, of a data block or of the peripherals, or is the length or number of an opened data
-/// block.
+/// Whether the operand is of a data block or of the peripherals, or is the length or number of an opened data block.
 fn is_elsewhere(statement: &Statement) -> bool
     ensures { result ≡ is_elsewhere statement.now }
 {
-    is_in(statement, OperandArea::Local)
-        || is_in(statement, OperandArea::Data)
+    is_in(statement, OperandArea::Data)
         || is_in(statement, OperandArea::Instance)
         || is_in(statement, OperandArea::PeripheralIn)
         || is_in(statement, OperandArea::PeripheralOut)
@@ -50,8 +50,14 @@ fn has_unsupported_operation(statement: &Statement) -> bool
     }
 }
 
-/// Returns whether a statement is one that is supported: its operand is none of local data, of a data block or of the
-/// peripherals, and it opens no data block, and calls no function block with its data block and no system function.
+/// Returns whether the operand of a statement is of local data.
+pub fn is_local(statement: &Statement) -> bool
+    ensures { result ≡ is_in areas.Local statement.now }
+{
+    is_in(statement, OperandArea::Local)
+}
+
+/// Returns whether a statement is one that is supported: its operand is none of a data block or of the peripherals, and it opens no data block, and calls no function block with its data block and no system function.
 pub fn is_supported(statement: &Statement) -> bool
     ensures { result ≡ is_supported statement.now }
 {

@@ -1,0 +1,75 @@
+-- As many blocks have begun as there are frames.
+use Rattle.std.proofs.Common.{◌≡◌, ℕ, suc, ◌+◌, ◌-◌, ◌<◌, ◌≤◌, List, [], ◌∷◌, ◌++◌, length, take, refl, sym, ap, ◌∙◌, subst, arith, length-append}
+use Rattle.std.specs.Prelude.{map, ◌==◌, if◌then◌else◌}
+use Rattle.std.proofs.lemmas.Bool.{cond_both, eqb-true, eqb-false}
+use Rattle.std.proofs.lemmas.List.{length-take-le}
+use Rattle.s7_base.specs.declared.blocks.BlockRef.{BlockRef}
+use Rattle.level_stack.specs.Levels.{LevelState, with_last, entered, left, ended, without_empty, without_last, running_frames, block_counts}
+use Rattle.statement_effects.specs.State.{Memory}
+use Rattle.statement_effects.specs.Levels.{with_level, with_block}
+use Rattle.mc_machine.specs.Stands.{AreBegun, IsDeeper}
+
+-- under a frame there is a level, on which a block runs
+pub has_level : (n : ℕ) (levels : List LevelState) → AreBegun n levels → 0 < n → 0 < length levels
+has_level n [] begun some = absurd (omega arith)
+has_level n (level ∷ []) begun some = omega arith
+has_level n (level ∷ other ∷ below) begun some = absurd begun
+
+pub has_block : (n : ℕ) (levels : List LevelState) → AreBegun n levels → 0 < n → length (running_frames levels) ≡ n
+has_block n [] begun some = absurd (omega arith)
+has_block n (level ∷ []) begun some = sym begun.0
+has_block n (level ∷ other ∷ below) begun some = absurd begun
+
+pub runs_block : (n : ℕ) (levels : List LevelState) → AreBegun n levels → 0 < n → 0 < length (running_frames levels)
+runs_block n levels begun some = let e = has_block n levels begun some in omega arith
+
+-- where there is no frame there is no level
+pub no_level : (n : ℕ) (levels : List LevelState) → AreBegun n levels → n ≡ 0 → levels ≡ []
+no_level n [] begun none = refl
+no_level n (level ∷ []) begun none = let some = begun.1 in absurd (omega arith)
+no_level n (level ∷ other ∷ below) begun none = absurd begun
+
+-- a block begins
+one_more : (n : ℕ) (levels : List LevelState) (block : BlockRef) (bytes : ℕ) → AreBegun n levels → 0 < n → AreBegun (n + 1) (with_last (entered block bytes) levels)
+one_more n [] block bytes begun some = absurd (omega arith)
+one_more n (level ∷ []) block bytes begun some =
+    let e = begun.0 in
+    let more = length-append level.frames ((entered block bytes (record level { frames = [] })).frames) in
+    (omega arith, omega arith)
+one_more n (level ∷ other ∷ below) block bytes begun some = absurd begun
+
+pub is_deeper : (before after : Memory) (block : BlockRef) (bytes : ℕ) → after ≡ with_block before block bytes → length (running_frames before.levels) < 24 → IsDeeper before.levels after.levels
+is_deeper before after block bytes e few n begun some =
+    let same = has_block n before.levels begun some in
+    (subst (λ (m : Memory). AreBegun (n + 1) m.levels) (sym e) (one_more n before.levels block bytes begun some), omega arith)
+
+-- the first block of a level begins
+pub main_begins : (before after : Memory) (priority : ℕ) (block : BlockRef) (bytes : ℕ) → before.levels ≡ [] → after ≡ with_block (with_level before priority) block bytes → AreBegun 1 after.levels
+main_begins before after priority block bytes none e =
+    subst (λ (m : Memory). AreBegun 1 m.levels) (sym e)
+    (subst (λ (levels : List LevelState). AreBegun 1 (with_last (entered block bytes) (levels ++ record { prio = priority; frames = [] } ∷ []))) (sym none) (refl, omega arith))
+
+-- a block ends
+pub one_less : (n : ℕ) (levels : List LevelState) → AreBegun (n + 1) levels → AreBegun n (ended levels)
+one_less n [] begun = absurd (omega arith)
+one_less n (level ∷ []) begun =
+    let e = begun.0 in
+    let l = length-take-le (length level.frames - 1) level.frames (omega arith) in
+    cond_both (length (without_last level.frames) == 0) _ _ (AreBegun n)
+    (λ zero. let z = eqb-true (length (without_last level.frames)) 0 zero in omega arith)
+    (λ some. let s = eqb-false (length (without_last level.frames)) 0 some in (omega arith, omega arith))
+one_less n (level ∷ other ∷ below) begun = absurd begun
+
+-- statements begin and end no block
+pub same_begun : (n : ℕ) (before after : List LevelState) → block_counts after ≡ block_counts before → AreBegun n before → AreBegun n after
+same_begun n [] [] e begun = begun
+same_begun n [] (b ∷ bs) e begun = absurd cc
+same_begun n (a ∷ []) [] e begun = absurd cc
+same_begun n (a ∷ []) (b ∷ []) e begun =
+    let same : length b.frames ≡ length a.frames = cc in (begun.0 ∙ sym same, begun.1)
+same_begun n (a ∷ []) (b ∷ c ∷ bs) e begun = absurd cc
+same_begun n (a ∷ x ∷ rest) bs e begun = absurd begun
+
+-- OB1 begins where no other block has
+pub main_over : (n : ℕ) (levels : List LevelState) → n ≡ 0 → AreBegun 1 levels → AreBegun (n + 1) levels
+main_over n levels e begun = subst (λ k. AreBegun (k + 1) levels) (sym e) begun
