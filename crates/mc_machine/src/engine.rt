@@ -575,7 +575,13 @@ impl Engine {
         ensures waits { self.new.waits ≡ self.old.waits }
     {
         let registers = self.memory.registers();
-        match enter_error_ob(&self.program, &self.index, &mut self.memory, spot.level, error) {
+        match enter_error_ob(
+            &self.program,
+            &self.index,
+            &mut self.memory,
+            spot.level,
+            error,
+        ) {
             Ok(()) => {
                 let frame = Frame {
                     spot: at_statement(spot, spot.at + 1),

@@ -55,11 +55,7 @@ pub fn enter_block(memory: &mut Memory, block: BlockRef, code: &CodeBlock) -> Re
 /// # Errors
 /// The stop where it has no local data. Nothing changes.
 #[tactic(auto, using(crate::proofs::Begun::main_begins))]
-pub fn enter_main(
-    program: &Blocks,
-    index: &CodeIndex,
-    memory: &mut Memory,
-) -> Result<(), StopCode>
+pub fn enter_main(program: &Blocks, index: &CodeIndex, memory: &mut Memory) -> Result<(), StopCode>
     requires found { AreFound program.now.codes index.now }
     requires idle { memory.old.levels ≡ [] }
     ensures ok { OnOk result (main_entered program.now memory.old ≡ Ok memory.new) }

@@ -27,7 +27,7 @@ pub use instruction::{
     MoveInstruction, NumberInstruction, Operand, StatusInstruction, TimedOperation, TimerOperation,
     ValueOperand, ValuePlace, Width, WordInstruction,
 };
-pub use level_stack::LevelFault;
 pub use laws::supported_statements_mean_instructions;
+pub use level_stack::LevelFault;
 pub use reading::instruction_of;
 pub use supported::{is_local, is_supported};

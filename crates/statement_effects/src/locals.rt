@@ -31,7 +31,8 @@ impl Memory {
         requires { at_byte + 1 ≤ length (running_locals self.old.levels) }
         ensures { self.new ≡ with_local_value self.old at_byte 1 byte }
     {
-        self.levels.write_local(u16::from(at_byte), 1, u32::from(byte));
+        self.levels
+            .write_local(u16::from(at_byte), 1, u32::from(byte));
     }
 
     /// A value of the local data.
@@ -39,7 +40,8 @@ impl Memory {
         requires { place.at_byte + bytes_in place.width ≤ length (running_locals self.now.levels) }
         ensures { result ≡ local_value self.now place.at_byte (bytes_in place.width) }
     {
-        self.levels.read_local(u16::from(place.at_byte), place.width.bytes())
+        self.levels
+            .read_local(u16::from(place.at_byte), place.width.bytes())
     }
 
     /// The low 8, 16 or 32 bits of a value are written into the local data.
@@ -49,6 +51,7 @@ impl Memory {
     {
         let width = place.width.bytes();
         let part = low_part(place.width, value);
-        self.levels.write_local(u16::from(place.at_byte), width, part);
+        self.levels
+            .write_local(u16::from(place.at_byte), width, part);
     }
 }
