@@ -55,7 +55,10 @@ fn read_both<F: Files>(
     ensures counts { OnOk result ((other : List ℕ) → F.faults files.new other ≡ F.faults files.old other) }
     ensures steady { IfErr result (λ error. (other : List ℕ) → PlayCounts error (file_in F.Files files.old files.new other)) }
 {
-    let blocks = read_blocks(alloc, files, source).map_err(PlayError::Source)?;
+    let blocks = match read_blocks(alloc, files, source) {
+        Ok(blocks) => blocks,
+        Err(error) => return Err(PlayError::Source(error)),
+    };
     let plant = read_plant(alloc, files, script).map_err(PlayError::Script)?;
     Ok((blocks, plant))
 }
