@@ -11,12 +11,20 @@ use status_word::StatusWord;
 use std::marker::Model;
 use timers::Timer;
 
-/// The registers of a block: the status word, the accumulators, and the open groups and zones.
+/// The numbers of the data blocks that are opened, as DB and as DI. None where none is.
+#[derive(Clone, Copy, Debug, Default, PartialEq, Eq)]
+pub struct DataRegisters {
+    pub block: Option<u8>,
+    pub instance: Option<u8>,
+}
+
+/// The registers of a block: the status word, the accumulators, the open groups and zones, and the data blocks that are opened.
 #[derive(Clone, Copy, Debug, Default)]
 pub struct Registers {
     pub status: StatusWord,
     pub accus: Accus,
     pub unit: BitUnit,
+    pub data: DataRegisters,
 }
 
 impl Registers {
@@ -28,6 +36,10 @@ impl Registers {
             status: StatusWord::new(),
             accus: Accus::new(),
             unit: BitUnit::new(),
+            data: DataRegisters {
+                block: None,
+                instance: None,
+            },
         }
     }
 }

@@ -55,6 +55,30 @@ pub struct LocalValue {
     pub width: Width,
 }
 
+/// The data block that an operand names: the one that is opened as DB, or as DI, or that of a number, as `DBn.` does.
+#[derive(Clone, Copy, Debug, PartialEq, Eq)]
+pub enum DataBlockName {
+    Opened,
+    Instance,
+    Numbered(u8),
+}
+
+/// A bit of a data block: the byte is 0 to 65,535, and the bit is 0 to 7.
+#[derive(Clone, Copy, Debug, PartialEq, Eq)]
+pub struct DataBit {
+    pub block: DataBlockName,
+    pub at_byte: u16,
+    pub bit: u8,
+}
+
+/// A value of a data block, by its first byte, 0 to 65,535.
+#[derive(Clone, Copy, Debug, PartialEq, Eq)]
+pub struct DataValue {
+    pub block: DataBlockName,
+    pub at_byte: u16,
+    pub width: Width,
+}
+
 /// A bit that a statement names. Its place is found when the statement is executed.
 #[derive(Clone, Copy, Debug, PartialEq, Eq)]
 pub enum BitOperand {
@@ -62,6 +86,8 @@ pub enum BitOperand {
     Area(BitPlace),
     /// A bit of the local data of the block that runs.
     Local(LocalBit),
+    /// A bit of a data block, which may be missing or too short.
+    Data(DataBit),
 }
 
 /// A value that a statement names. Its place is found when the statement is executed.
@@ -71,6 +97,8 @@ pub enum ValueOperand {
     Area(ValuePlace),
     /// A value of the local data of the block that runs.
     Local(LocalValue),
+    /// A value of a data block, which may be missing or too short.
+    Data(DataValue),
 }
 
 /// The operand of a statement.
@@ -242,6 +270,32 @@ pub enum CounterOperation {
     LoadCoded,
 }
 
+/// What `L` loads of the data blocks that are opened.
+#[derive(Clone, Copy, Debug, PartialEq, Eq)]
+pub enum DataNumber {
+    /// `DBLG`
+    Length,
+    /// `DBNO`
+    Number,
+    /// `DILG`
+    InstanceLength,
+    /// `DINO`
+    InstanceNumber,
+}
+
+/// Statements on the data blocks that are opened.
+#[derive(Clone, Copy, Debug, PartialEq, Eq)]
+pub enum DataInstruction {
+    /// `OPN DB n`
+    Open(u8),
+    /// `OPN DI n`
+    OpenInstance(u8),
+    /// `CDB`
+    Exchange,
+    /// `L` of a length or a number
+    Load(DataNumber),
+}
+
 /// What a statement means.
 #[derive(Clone, Copy, Debug, PartialEq, Eq)]
 pub enum Instruction {
@@ -260,8 +314,11 @@ pub enum Instruction {
     Timed(TimedOperation, u8),
     /// A counter of this number.
     Counter(CounterOperation, u8),
+    Data(DataInstruction),
     /// `CALL` of an FC, `UC`
     Call(BlockRef),
+    /// `CALL` of an FB with the data block of a number, which it opens as DI
+    CallInstance(BlockRef, u8),
     /// `CC`
     CallWhenSet(BlockRef),
     /// `BE` and `BEU`
@@ -274,6 +331,9 @@ pub enum Instruction {
 
 /// The error of a digit above 9.
 pub(crate) const BAD_DIGIT: u8 = 1;
+
+/// The error of a data block that is not loaded, or where none is opened.
+pub(crate) const NO_DATA_BLOCK: u8 = 8;
 
 /// The error of an address past the end of its bytes.
 pub(crate) const PAST_THE_END: u8 = 2;
@@ -289,6 +349,8 @@ pub enum Flow {
     Among { number: u8, target: u32 },
     /// Into the block that is called, at whose end the next statement follows.
     Call(BlockRef),
+    /// Into the function block that is called, which opens the data block of this number as DI.
+    CallInstance(BlockRef, u8),
     /// To the end of the block.
     End,
     /// To the error of this number; the statement changed nothing.
