@@ -164,7 +164,7 @@ fn places(rt: HostRuntime) -> Result<(), Fail> {
 
 #[test]
 fn faults(rt: HostRuntime) -> Result<(), Fail> {
-    let rows: [(&[u8], &[u8]); 44] = [
+    let rows: [(&[u8], &[u8]); 24] = [
         (b"VAR_TEMP a:FOO;", b"!5 1"),
         (b"VAR_TEMP a:\nREAL;", b"!6 2"),
         (b"VAR_TEMP a:STRING[4];", b"!21 1"),
@@ -189,6 +189,13 @@ fn faults(rt: HostRuntime) -> Result<(), Fail> {
         (b"VAR_INPUT a:INT;END_VAR", b"!21 1"),
         (b"VAR_TEMP a:INT;END_VAR\nVAR", b"!21 2"),
         (b"VAR_FOO", b"=0 0"),
+    ];
+    assert_read(&rt, rt.alloc(), Part::Declarations, &rows)
+}
+
+#[test]
+fn values_at_fault(rt: HostRuntime) -> Result<(), Fail> {
+    let rows: [(&[u8], &[u8]); 20] = [
         (b"STRUCT a:INT:=\n1\n.5;", b"!13 2"),
         (b"STRUCT a:BOOL:=\n1.5;", b"!11 2"),
         (b"STRUCT a:INT:=\n1E5;", b"!11 2"),

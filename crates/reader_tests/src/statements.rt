@@ -89,8 +89,8 @@ fn assert_rows(rt: &impl Abort, alloc: Global, rows: &[(&[u8], [u32; 5])]) -> Re
 }
 
 #[test]
-fn mnemonics_alone(rt: HostRuntime) -> Result<(), Fail> {
-    let rows: [(&[u8], [u32; 5]); 71] = [
+fn bits_and_moves_alone(rt: HostRuntime) -> Result<(), Fail> {
+    let rows: [(&[u8], [u32; 5]); 23] = [
         (b"O", [6, 0, 0, 0, 0]),
         (b"A(", [7, 0, 0, 0, 0]),
         (b"AN(", [8, 0, 0, 0, 0]),
@@ -114,6 +114,13 @@ fn mnemonics_alone(rt: HostRuntime) -> Result<(), Fail> {
         (b"TAK", [34, 0, 0, 0, 0]),
         (b"CAW", [35, 0, 0, 0, 0]),
         (b"CAD", [36, 0, 0, 0, 0]),
+    ];
+    assert_rows(&rt, rt.alloc(), &rows)
+}
+
+#[test]
+fn numbers_alone(rt: HostRuntime) -> Result<(), Fail> {
+    let rows: [(&[u8], [u32; 5]); 30] = [
         (b"+I", [40, 0, 0, 0, 0]),
         (b"-I", [41, 0, 0, 0, 0]),
         (b"*I", [42, 0, 0, 0, 0]),
@@ -144,6 +151,13 @@ fn mnemonics_alone(rt: HostRuntime) -> Result<(), Fail> {
         (b"<D", [67, 0, 0, 0, 0]),
         (b">=D", [68, 0, 0, 0, 0]),
         (b"<=D", [69, 0, 0, 0, 0]),
+    ];
+    assert_rows(&rt, rt.alloc(), &rows)
+}
+
+#[test]
+fn words_and_ends_alone(rt: HostRuntime) -> Result<(), Fail> {
+    let rows: [(&[u8], [u32; 5]); 18] = [
         (b"AW", [70, 0, 0, 0, 0]),
         (b"OW", [71, 0, 0, 0, 0]),
         (b"XOW", [72, 0, 0, 0, 0]),
@@ -206,7 +220,7 @@ fn bits(rt: HostRuntime) -> Result<(), Fail> {
 
 #[test]
 fn values(rt: HostRuntime) -> Result<(), Fail> {
-    let rows: [(&[u8], [u32; 5]); 76] = [
+    let rows: [(&[u8], [u32; 5]); 28] = [
         (b"L IB 63", [27, 1, 8, 0, 63]),
         (b"L IW 62", [27, 1, 9, 0, 62]),
         (b"L ID 60", [27, 1, 10, 0, 60]),
@@ -235,6 +249,13 @@ fn values(rt: HostRuntime) -> Result<(), Fail> {
         (b"L DBNO", [27, 20, 0, 0, 0]),
         (b"L DILG", [27, 21, 0, 0, 0]),
         (b"L DINO", [27, 22, 0, 0, 0]),
+    ];
+    assert_rows(&rt, rt.alloc(), &rows)
+}
+
+#[test]
+fn constants(rt: HostRuntime) -> Result<(), Fail> {
+    let rows: [(&[u8], [u32; 5]); 19] = [
         (b"L 5", [27, 11, 0, 0, 5]),
         (b"L +32767", [27, 11, 0, 0, 32767]),
         (b"L -32768", [27, 11, 0, 0, 32768]),
@@ -254,6 +275,13 @@ fn values(rt: HostRuntime) -> Result<(), Fail> {
         (b"L 'ab'", [27, 11, 0, 0, 24930]),
         (b"L 'abc'", [27, 12, 0, 0, 6382179]),
         (b"L 'abcd'", [27, 12, 0, 0, 1633837924]),
+    ];
+    assert_rows(&rt, rt.alloc(), &rows)
+}
+
+#[test]
+fn transfers_counts_and_words(rt: HostRuntime) -> Result<(), Fail> {
+    let rows: [(&[u8], [u32; 5]); 29] = [
         (b"T IB 0", [28, 1, 8, 0, 0]),
         (b"T MW 2", [28, 3, 9, 0, 2]),
         (b"T DB3.DBW 6", [28, 5, 9, 3, 6]),
@@ -288,8 +316,8 @@ fn values(rt: HostRuntime) -> Result<(), Fail> {
 }
 
 #[test]
-fn jumps_timers_and_blocks(rt: HostRuntime) -> Result<(), Fail> {
-    let rows: [(&[u8], [u32; 5]); 40] = [
+fn jumps(rt: HostRuntime) -> Result<(), Fail> {
+    let rows: [(&[u8], [u32; 5]); 18] = [
         (b"JU M001", [84, 13, 0, 0, 0]),
         (b"JL M001", [85, 13, 0, 0, 0]),
         (b"JC M001", [86, 13, 0, 0, 0]),
@@ -308,6 +336,13 @@ fn jumps_timers_and_blocks(rt: HostRuntime) -> Result<(), Fail> {
         (b"JMZ M001", [99, 13, 0, 0, 0]),
         (b"JUO M001", [100, 13, 0, 0, 0]),
         (b"LOOP M001", [101, 13, 0, 0, 0]),
+    ];
+    assert_rows(&rt, rt.alloc(), &rows)
+}
+
+#[test]
+fn timers_and_blocks(rt: HostRuntime) -> Result<(), Fail> {
+    let rows: [(&[u8], [u32; 5]); 22] = [
         (b"SP T 0", [102, 9, 0, 0, 0]),
         (b"SE T 1", [103, 9, 0, 0, 1]),
         (b"SD T 2", [104, 9, 0, 0, 2]),
@@ -354,7 +389,7 @@ fn assert_faults(rt: &impl Abort, alloc: Global, rows: &[(&[u8], (u32, u32))]) -
 
 #[test]
 fn bits_at_fault(rt: HostRuntime) -> Result<(), Fail> {
-    let rows: [(&[u8], (u32, u32)); 36] = [
+    let rows: [(&[u8], (u32, u32)); 21] = [
         (b"A IB 0; END_FUNCTION", (11, 1)),
         (b"A I\n64.0; END_FUNCTION", (11, 1)),
         (b"A I 0.8; END_FUNCTION", (11, 1)),
@@ -376,6 +411,13 @@ fn bits_at_fault(rt: HostRuntime) -> Result<(), Fail> {
         (b"A STW; END_FUNCTION", (11, 1)),
         (b"A TRUE; END_FUNCTION", (11, 1)),
         (b"A 5; END_FUNCTION", (11, 1)),
+    ];
+    assert_faults(&rt, rt.alloc(), &rows)
+}
+
+#[test]
+fn data_bits_and_status_at_fault(rt: HostRuntime) -> Result<(), Fail> {
+    let rows: [(&[u8], (u32, u32)); 15] = [
         (b"A DIX 65536.0; END_FUNCTION", (11, 1)),
         (b"A DB0.DBX 0.0; END_FUNCTION", (11, 1)),
         (b"A\nDB256\n.DBX 0.0; END_FUNCTION", (11, 2)),
@@ -397,7 +439,7 @@ fn bits_at_fault(rt: HostRuntime) -> Result<(), Fail> {
 
 #[test]
 fn values_at_fault(rt: HostRuntime) -> Result<(), Fail> {
-    let rows: [(&[u8], (u32, u32)); 44] = [
+    let rows: [(&[u8], (u32, u32)); 22] = [
         (b"L IB 64; END_FUNCTION", (11, 1)),
         (b"L IW 63; END_FUNCTION", (11, 1)),
         (b"L QD 61; END_FUNCTION", (11, 1)),
@@ -420,6 +462,13 @@ fn values_at_fault(rt: HostRuntime) -> Result<(), Fail> {
         (b"L LB 0; END_FUNCTION", (11, 1)),
         (b"A L 0.0; END_FUNCTION", (11, 1)),
         (b"L I 0.0; END_FUNCTION", (11, 1)),
+    ];
+    assert_faults(&rt, rt.alloc(), &rows)
+}
+
+#[test]
+fn constants_at_fault(rt: HostRuntime) -> Result<(), Fail> {
+    let rows: [(&[u8], (u32, u32)); 22] = [
         (b"L 32768; END_FUNCTION", (11, 1)),
         (b"L -\n32769; END_FUNCTION", (11, 1)),
         (b"L 4_294_967_295; END_FUNCTION", (11, 1)),
@@ -447,8 +496,8 @@ fn values_at_fault(rt: HostRuntime) -> Result<(), Fail> {
 }
 
 #[test]
-fn blocks_at_fault(rt: HostRuntime) -> Result<(), Fail> {
-    let rows: [(&[u8], (u32, u32)); 34] = [
+fn jumps_timers_and_data_blocks_at_fault(rt: HostRuntime) -> Result<(), Fail> {
+    let rows: [(&[u8], (u32, u32)); 13] = [
         (b"JU; END_FUNCTION", (11, 1)),
         (b"JU LABEL1; END_FUNCTION", (11, 1)),
         (b"JU 5; END_FUNCTION", (11, 1)),
@@ -462,6 +511,13 @@ fn blocks_at_fault(rt: HostRuntime) -> Result<(), Fail> {
         (b"OPN DB 256; END_FUNCTION", (11, 1)),
         (b"OPN DI 256; END_FUNCTION", (11, 1)),
         (b"OPN DB1; END_FUNCTION", (11, 1)),
+    ];
+    assert_faults(&rt, rt.alloc(), &rows)
+}
+
+#[test]
+fn calls_at_fault(rt: HostRuntime) -> Result<(), Fail> {
+    let rows: [(&[u8], (u32, u32)); 21] = [
         (b"CALL FC 256; END_FUNCTION", (11, 1)),
         (b"CALL FB 1\n; END_FUNCTION", (11, 2)),
         (b"CALL FB 1, DB 0; END_FUNCTION", (11, 1)),
@@ -523,8 +579,8 @@ fn operands_left_out(rt: HostRuntime) -> Result<(), Fail> {
 }
 
 #[test]
-fn statements_at_fault(rt: HostRuntime) -> Result<(), Fail> {
-    let rows: [(&[u8], (u32, u32)); 42] = [
+fn real_constants_and_indirect_operands(rt: HostRuntime) -> Result<(), Fail> {
+    let rows: [(&[u8], (u32, u32)); 17] = [
         (b"L 1.5; END_FUNCTION", (10, 1)),
         (b"L\n-1.5; END_FUNCTION", (10, 2)),
         (b"L 1E5; END_FUNCTION", (10, 1)),
@@ -542,6 +598,13 @@ fn statements_at_fault(rt: HostRuntime) -> Result<(), Fail> {
         (b"A DB1.DBX\n[MD 0];", (21, 2)),
         (b"A I 0.0\n[MD 0];", (13, 1)),
         (b"A IB\n[", (11, 1)),
+    ];
+    assert_faults(&rt, rt.alloc(), &rows)
+}
+
+#[test]
+fn statements_at_fault(rt: HostRuntime) -> Result<(), Fail> {
+    let rows: [(&[u8], (u32, u32)); 25] = [
         (b"LAR1;", (21, 1)),
         (b"+AR1;", (21, 1)),
         (b"TAR2 MD 0;", (21, 1)),

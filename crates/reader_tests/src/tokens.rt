@@ -53,8 +53,8 @@ fn assert_shown(rt: &impl Abort, alloc: Global, rows: &[(&[u8], &[u8])]) -> Resu
 }
 
 #[test]
-fn each_form(rt: HostRuntime) -> Result<(), Fail> {
-    let rows: [(&[u8], &[u8]); 47] = [
+fn words_numbers_and_literals(rt: HostRuntime) -> Result<(), Fail> {
+    let rows: [(&[u8], &[u8]); 25] = [
         (b"", b""),
         (b"Ab_1 \t_001:\r\n", b"WAb_1|W_001|S:|"),
         (b"TITLE =x /y\nTITLE=x", b"TTITLE =x /y|WTITLE|S=|Wx|"),
@@ -89,6 +89,13 @@ fn each_form(rt: HostRuntime) -> Result<(), Fail> {
         (b"T#24D20H31M23S647MS", b"VT#24D20H31M23S647MS|"),
         (b"T#-24D20H31M23S648MS", b"VT#-24D20H31M23S648MS|"),
         (b"t#+1d TIME#1H1M", b"Vt#+1d|VTIME#1H1M|"),
+    ];
+    assert_shown(&rt, rt.alloc(), &rows)
+}
+
+#[test]
+fn reals_signs_and_comments(rt: HostRuntime) -> Result<(), Fail> {
+    let rows: [(&[u8], &[u8]); 22] = [
         (b"P#M0.0 p#", b"VP#M0|S.|N0|Vp#|"),
         (b"1E 1E5 1e-5 1_0E+1_0", b"R1E|R1E5|R1e-5|R1_0E+1_0|"),
         (b"1E+ 1E-x 99999999999E", b"R1E|S+|R1E|S-|Wx|R99999999999E|"),
@@ -119,8 +126,8 @@ fn each_form(rt: HostRuntime) -> Result<(), Fail> {
 }
 
 #[test]
-fn each_fault(rt: HostRuntime) -> Result<(), Fail> {
-    let rows: [(&[u8], &[u8]); 68] = [
+fn bytes_at_fault(rt: HostRuntime) -> Result<(), Fail> {
+    let rows: [(&[u8], &[u8]); 18] = [
         (b"\n (* x", b"!4 2"),
         (b"(* x", b"!4 1"),
         (b"(*)", b"!4 1"),
@@ -139,6 +146,13 @@ fn each_fault(rt: HostRuntime) -> Result<(), Fail> {
         (b"A\n\x80", b"!1 2"),
         (b"!", b"!1 1"),
         (b"&", b"!1 1"),
+    ];
+    assert_shown(&rt, rt.alloc(), &rows)
+}
+
+#[test]
+fn numbers_at_fault(rt: HostRuntime) -> Result<(), Fail> {
+    let rows: [(&[u8], &[u8]); 26] = [
         (b"1x", b"!2 1"),
         (b"5_", b"!2 1"),
         (b"5__0", b"!2 1"),
@@ -165,6 +179,13 @@ fn each_fault(rt: HostRuntime) -> Result<(), Fail> {
         (b"2#0_11111111_11111111_11111111_11111111", b"!2 1"),
         (b"C#-1", b"!2 1"),
         (b"C#A", b"!2 1"),
+    ];
+    assert_shown(&rt, rt.alloc(), &rows)
+}
+
+#[test]
+fn durations_at_fault(rt: HostRuntime) -> Result<(), Fail> {
+    let rows: [(&[u8], &[u8]); 12] = [
         (b"S5T#1D", b"!2 1"),
         (b"S5T#-1S", b"!2 1"),
         (b"S5T#1_S", b"!2 1"),
@@ -177,6 +198,13 @@ fn each_fault(rt: HostRuntime) -> Result<(), Fail> {
         (b"T#1S1", b"!2 1"),
         (b"TIME#-1S", b"!2 1"),
         (b"DATE#1", b"!2 1"),
+    ];
+    assert_shown(&rt, rt.alloc(), &rows)
+}
+
+#[test]
+fn ranges_at_fault(rt: HostRuntime) -> Result<(), Fail> {
+    let rows: [(&[u8], &[u8]); 12] = [
         (b"4294967296", b"!3 1"),
         (b"L#2147483648", b"!3 1"),
         (b"L#-2147483649", b"!3 1"),
