@@ -33,7 +33,7 @@ use Rattle.statement_effects.specs.declared.instruction.Width.TheVariants.{Byte,
 
 -- where no block has begun
 abbrev pub clear_registers : Registers
-clear_registers = record { status = cleared_status; accus = cleared_accus; unit = cleared_unit; data = record { block = None; instance = None } }
+clear_registers = record { status = cleared_status; accus = cleared_accus; unit = cleared_unit; «data» = record { block = None; instance = None } }
 
 abbrev pub with_registers : Memory → Registers → Memory
 with_registers memory registers = record memory { registers = registers }

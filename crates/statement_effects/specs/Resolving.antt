@@ -20,14 +20,14 @@ in_locals end operand memory = if nat_le end (length (running_locals memory.leve
 
 -- the number of the data block that an operand names: none where none is opened
 abbrev pub data_number : DataBlockName → DataRegisters → Option ℕ
-data_number Opened data = data.block
-data_number Instance data = data.instance
-data_number (Numbered number) data = Some number
+data_number Opened registers = registers.block
+data_number Instance registers = registers.instance
+data_number (Numbered number) registers = Some number
 
 -- the memory with a data block opened as DB
 abbrev pub with_opened : Memory → ℕ → Memory
 with_opened memory number =
-    record memory { registers = record memory.registers { data = record memory.registers.data { block = Some number } } }
+    record memory { registers = record memory.registers { «data» = record memory.registers.«data» { block = Some number } } }
 
 -- an operand that names the number opens that data block
 abbrev pub with_named : DataBlockName → Memory → Memory
@@ -47,7 +47,7 @@ in_block end (Some number) memory after = in_bytes end (data_length memory numbe
 
 -- the same of the data block that an operand names, with its number
 abbrev pub in_data : DataBlockName → ℕ → Memory → Result (Memory × ℕ) ℕ
-in_data name end memory = in_block end (data_number name memory.registers.data) memory (with_named name memory)
+in_data name end memory = in_block end (data_number name memory.registers.«data») memory (with_named name memory)
 
 -- the place in the data block of a number that was found
 abbrev pub placed : {A : Type 0} → (ℕ → A) → Result (Memory × ℕ) ℕ → Result (Memory × A) ℕ

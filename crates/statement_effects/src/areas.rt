@@ -1,5 +1,5 @@
 //! What the statements see.
-ghost use Rattle.std.specs.Prelude.{◌≡◌, length, slice_get, IfOk};
+ghost use Rattle.std.specs.Prelude.{◌≡◌, ◌≤◌, length, slice_get, IfOk, IfSome};
 ghost use Rattle.cpu_image.specs.Image.{area_bytes};
 ghost use Rattle.cpu_image.specs.Pages.{HasSizes, with_inputs};
 ghost use Rattle.statement_effects.specs.Areas.{clear_registers, with_registers, data_length, start_memory};
@@ -123,7 +123,8 @@ impl Memory {
 
     /// Returns the number of bytes of the data block of a number, at most 8,192. None exactly where it is not loaded.
     pub fn data_length(&self, number: u8) -> Option<u16>
-        ensures { result ≡ data_length self.now number }
+        ensures length { result ≡ data_length self.now number }
+        ensures few { IfSome result (λ length. length ≤ 8192) }
     {
         let count = self.image.byte_count(ByteArea::Db(number))?;
         Some(count as u16)
