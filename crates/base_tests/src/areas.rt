@@ -1,5 +1,5 @@
-use cpu_image::{CpuImage, ImageFault};
-use s7_base::{Area, Blocks, CodeBlock, CodeKind, DataBlock};
+use cpu_image::{ByteArea, CpuImage, ImageFault};
+use s7_base::{Blocks, CodeBlock, CodeKind, DataBlock};
 use std::alloc::Global;
 use std::test::Fail;
 
@@ -28,18 +28,15 @@ fn image(alloc: Global) -> Result<CpuImage, Fail> {
 fn areas_begin_with_their_bytes(rt: HostRuntime) -> Result<(), Fail> {
     let image = image(rt.alloc())?;
     assert_eq!(rt; image.pages(), 45);
-    assert_eq!(rt; image.read(Area::Db(3), 0, 4), Ok(0x0a14_1e28));
-    assert_eq!(rt; image.read(Area::Db(3), 1, 2), Ok(0x141e));
-    assert_eq!(rt; image.read(Area::Db(7), 257, 1), Ok(7));
-    assert_eq!(rt; image.read_bit(Area::Db(3), 0, 1), Ok(true));
-    assert_eq!(rt; image.read_bit(Area::Db(3), 0, 0), Ok(false));
+    assert_eq!(rt; image.read(ByteArea::Db(3), 0, 4), Ok(0x0a14_1e28));
+    assert_eq!(rt; image.read(ByteArea::Db(3), 1, 2), Ok(0x141e));
+    assert_eq!(rt; image.read(ByteArea::Db(7), 257, 1), Ok(7));
+    assert_eq!(rt; image.read_bit(ByteArea::Db(3), 0, 1), Ok(true));
+    assert_eq!(rt; image.read_bit(ByteArea::Db(3), 0, 0), Ok(false));
     let cases = [
-        (Area::I, 60, 63),
-        (Area::Q, 60, 63),
-        (Area::M, 1020, 1023),
-        (Area::Timers, 6140, 6143),
-        (Area::Counters, 1020, 1023),
-        (Area::Registers, 252, 255),
+        (ByteArea::I, 60, 63),
+        (ByteArea::Q, 60, 63),
+        (ByteArea::M, 1020, 1023),
     ];
     for (area, at_byte, last) in cases {
         assert_eq!(rt; image.read(area, at_byte, 4), Ok(0));
@@ -52,18 +49,17 @@ fn areas_begin_with_their_bytes(rt: HostRuntime) -> Result<(), Fail> {
 #[test]
 fn a_write_over_two_pages(rt: HostRuntime) -> Result<(), Fail> {
     let mut image = image(rt.alloc())?;
-    assert_eq!(rt; image.write(Area::Db(7), 255, 2, 0x1234), Ok(()));
-    assert_eq!(rt; image.read(Area::Db(7), 254, 4), Ok(0x0712_3407));
-    assert_eq!(rt; image.read(Area::Db(3), 0, 4), Ok(0x0a14_1e28));
+    assert_eq!(rt; image.write(ByteArea::Db(7), 255, 2, 0x1234), Ok(()));
+    assert_eq!(rt; image.read(ByteArea::Db(7), 254, 4), Ok(0x0712_3407));
+    assert_eq!(rt; image.read(ByteArea::Db(3), 0, 4), Ok(0x0a14_1e28));
     for page in 0..45 {
         assert_eq!(rt; image.is_marked(page), page == 42 || page == 43);
     }
     image.clear_mark(42);
     assert!(rt; !image.is_marked(42) && image.is_marked(43));
-    assert_eq!(rt; image.write_bit(Area::Q, 63, 7, true), Ok(()));
-    assert_eq!(rt; image.read(Area::Q, 63, 1), Ok(0x80));
-    assert_eq!(rt; image.write(Area::Registers, 0, 1, 0), Ok(()));
-    assert!(rt; image.is_marked(0) && image.is_marked(44) && !image.is_marked(41));
+    assert_eq!(rt; image.write_bit(ByteArea::Q, 63, 7, true), Ok(()));
+    assert_eq!(rt; image.read(ByteArea::Q, 63, 1), Ok(0x80));
+    assert!(rt; image.is_marked(0) && !image.is_marked(41) && !image.is_marked(44));
     Ok(())
 }
 
@@ -72,22 +68,22 @@ fn a_write_over_two_pages(rt: HostRuntime) -> Result<(), Fail> {
 fn what_is_refused_changes_nothing(rt: HostRuntime) -> Result<(), Fail> {
     let mut image = image(rt.alloc())?;
     assert_eq!(rt;
-        image.write(Area::Db(3), 2, 4, 1),
+        image.write(ByteArea::Db(3), 2, 4, 1),
         Err(ImageFault::NoSuchAddress)
     );
     assert_eq!(rt;
-        image.write(Area::Db(4), 65_535, 4, 1),
+        image.write(ByteArea::Db(4), 65_535, 4, 1),
         Err(ImageFault::NoSuchBlock)
     );
     assert_eq!(rt;
-        image.write_bit(Area::Db(3), 4, 0, true),
+        image.write_bit(ByteArea::Db(3), 4, 0, true),
         Err(ImageFault::NoSuchAddress)
     );
     assert_eq!(rt;
-        image.read_bit(Area::Db(0), 0, 0),
+        image.read_bit(ByteArea::Db(0), 0, 0),
         Err(ImageFault::NoSuchBlock)
     );
-    assert_eq!(rt; image.read(Area::Db(3), 0, 4), Ok(0x0a14_1e28));
+    assert_eq!(rt; image.read(ByteArea::Db(3), 0, 4), Ok(0x0a14_1e28));
     for page in 0..45 {
         assert!(rt; !image.is_marked(page));
     }

@@ -1,5 +1,5 @@
 -- The pages of data blocks that are loaded.
-use Rattle.std.proofs.Common.{◌≡◌, inl, inr, ℕ, zero, suc, ◌+◌, ◌<◌, ◌≤◌, ◌==◌, List, [], ◌∷◌, ◌++◌, length, Option, Some, None, refl, sym, ap, ◌∙◌, arith}
+use Rattle.std.proofs.Common.{◌≡◌, inl, inr, ℕ, zero, suc, ◌+◌, ◌<◌, ◌≤◌, ◌==◌, List, [], ◌∷◌, ◌++◌, length, Option, Some, None, refl, sym, ap, ◌∙◌, subst, arith}
 use Rattle.std.specs.Prelude.{IsTrue, if◌then◌else◌}
 use Rattle.std.specs.List.{find, All}
 use Rattle.std.specs.Option.{option_map}
@@ -40,6 +40,17 @@ once x [] rise = refl
 once x (y ∷ ys) rise =
     let parts = and_parts _ _ rise in
     below_first x.number y ys (ltb-true x.number y.number parts.0) parts.1
+
+-- a block that is found is one of them
+pub found_is_data : (number : ℕ) (blocks : List Data) (x : Data) → All IsData blocks → numbered number blocks ≡ Some x → length x.bytes ≤ 8192
+found_is_data number [] x each e = absurd cc
+found_is_data number (y ∷ ys) x each e = elim (cases_eq y.number number) [
+  | inl same ↦
+      let f = found number y ys same in
+      let is : y ≡ x = cc in
+      subst (λ (b : Data). length b.bytes ≤ 8192) is (All-head IsData y ys each).small
+  | inr ne ↦ found_is_data number ys x (All-tail IsData y ys each) (sym (passed number y ys ne) ∙ e)
+]
 
 -- the pages of the blocks of the numbers below n
 abbrev pages_below : List Data → ℕ → ℕ

@@ -5,14 +5,14 @@ use Rattle.std.proofs.lemmas.List.{length-take-le, length-drop, length-append, t
 use Rattle.std.proofs.Math.Seq.{take-set-lt}
 use Rattle.std.proofs.lemmas.Bool.{cases_lt, cases_eq}
 use Rattle.std.proofs.lemmas.List.Sums.{sum_by-set, sum_by_more, sum_by_more_le}
-use Rattle.s7_events.specs.declared.diagnostics.Area.{Area}
-use Rattle.s7_events.specs.declared.diagnostics.Area.TheVariants.{I, Q, M, Db, Timers, Counters, Registers}
+use Rattle.cpu_image.specs.declared.area.ByteArea.{ByteArea}
+use Rattle.cpu_image.specs.declared.area.ByteArea.TheVariants.{I, Q, M, Db}
 use Rattle.cpu_image.specs.Values.{overwritten}
 use Rattle.cpu_image.specs.Image.{Image, bytes_in, area_bytes}
 use Rattle.cpu_image.specs.Pages.{pages_of, data_pages, page_of, HasSizes}
 
-pub length-overwritten : (bytes : List ℕ) (from : ℕ) (piece : List ℕ) → from + length piece ≤ length bytes → length (overwritten bytes from piece) ≡ length bytes
-length-overwritten bytes from piece h =
+pub length_overwritten : (bytes : List ℕ) (from : ℕ) (piece : List ℕ) → from + length piece ≤ length bytes → length (overwritten bytes from piece) ≡ length bytes
+length_overwritten bytes from piece h =
     let front = length-take-le from bytes (omega arith) in
     let back = length-drop (from + length piece) bytes in
     let first = length-append (take from bytes) piece in
@@ -39,13 +39,10 @@ block_there blocks n at long h = elim (cases_lt n (length blocks)) [
 ]
 
 -- each byte of an area lies on a page that there is
-pub page_is_there : (image : Image) (area : Area) (at : ℕ) → HasSizes image → at < length (area_bytes image area) → page_of image area at < length image.marks
+pub page_is_there : (image : Image) (area : ByteArea) (at : ℕ) → HasSizes image → at < length (area_bytes image area) → page_of image area at < length image.marks
 page_is_there image I at s h = let e = s.inputs in let m = s.marks in omega arith
 page_is_there image Q at s h = let e = s.outputs in let m = s.marks in omega arith
 page_is_there image M at s h = let e = s.bit_memory in let m = s.marks in omega arith
-page_is_there image Timers at s h = let e = s.timers in let m = s.marks in omega arith
-page_is_there image Counters at s h = let e = s.counters in let m = s.marks in omega arith
-page_is_there image Registers at s h = let e = s.registers in let m = s.marks in omega arith
 page_is_there image (Db n) at s h = let e = block_there image.data_blocks n at s.data_blocks h in let m = s.marks in omega arith
 
 -- a data block that keeps its length keeps the pages of all

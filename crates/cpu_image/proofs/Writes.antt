@@ -7,12 +7,12 @@ use Rattle.std.proofs.lemmas.Nat.Bits.{bit_at_or, bit_at_and, bit_at_not, bit_at
 use Rattle.std.proofs.lemmas.Bool.{cases_lt, cases_eq}
 use Rattle.std.proofs.lemmas.List.{get_or-set_same, get_or-set_other, get_or_past, length-take-le, take_at, drop_at, append_assoc, length-set, get_or-append_right}
 use Rattle.std.proofs.lemmas.Nat.{from_be_bytes-to_be_bytes_2, from_be_bytes-to_be_bytes_4}
-use Rattle.s7_events.specs.declared.diagnostics.Area.{Area}
-use Rattle.s7_events.specs.declared.diagnostics.Area.TheVariants.{I, Q, M, Db, Timers, Counters, Registers}
+use Rattle.cpu_image.specs.declared.area.ByteArea.{ByteArea}
+use Rattle.cpu_image.specs.declared.area.ByteArea.TheVariants.{I, Q, M, Db}
 use Rattle.cpu_image.specs.Values.{IsWidth, value_of, bit_in, with_bit, overwritten}
 use Rattle.cpu_image.specs.Image.{Image, bytes_of, bytes_in, area_bytes, with_bytes}
 use Rattle.cpu_image.specs.Pages.{pages_of, page_of, first_page, offset, written, bit_written}
-use Rattle.cpu_image.proofs.Pages.{length-overwritten, pages_there, pages_set, pages_take_set}
+use Rattle.cpu_image.proofs.Pages.{length_overwritten, pages_there, pages_set, pages_take_set}
 use Rattle.cpu_image.specs.Laws.{WrittenIsRead, WrittenBitIsRead, OthersAreKept, WritesMark, PagesStay, HasByteOn, AreIn}
 
 -- areas --
@@ -21,7 +21,7 @@ block_kept : (blocks : List (Option (List ℕ))) (n m : ℕ) (bytes : List ℕ) 
 block_kept blocks n m bytes ne = get_or-set_other blocks m n (Some bytes) None (λ e. ne (ap Db e))
 
 -- another area has the bytes that it had
-kept_elsewhere : (image : Image) (area other : Area) (bytes : List ℕ) → other ≢ area → bytes_of (with_bytes image area bytes) other ≡ bytes_of image other
+kept_elsewhere : (image : Image) (area other : ByteArea) (bytes : List ℕ) → other ≢ area → bytes_of (with_bytes image area bytes) other ≡ bytes_of image other
 kept_elsewhere image area other bytes ne = grind (arith, block_kept image.data_blocks)
 
 -- a data block that has bytes is one of the list
@@ -35,13 +35,10 @@ block_here : (blocks : List (Option (List ℕ))) (n : ℕ) (bytes : List ℕ) �
 block_here blocks n bytes some = ap bytes_in (get_or-set_same blocks n (Some bytes) None (block_is blocks n some))
 
 -- the area has the bytes that were put into it
-kept_here : (image : Image) (area : Area) (bytes : List ℕ) → 0 < length (area_bytes image area) → area_bytes (with_bytes image area bytes) area ≡ bytes
+kept_here : (image : Image) (area : ByteArea) (bytes : List ℕ) → 0 < length (area_bytes image area) → area_bytes (with_bytes image area bytes) area ≡ bytes
 kept_here image I bytes some = refl
 kept_here image Q bytes some = refl
 kept_here image M bytes some = refl
-kept_here image Timers bytes some = refl
-kept_here image Counters bytes some = refl
-kept_here image Registers bytes some = refl
 kept_here image (Db n) bytes some = block_here image.data_blocks n bytes some
 
 -- values --
@@ -176,7 +173,7 @@ marked_from marks f page is = elim (cases_eq page f) [
 ]
 
 -- the page of a byte of a few is that of the first or that of the last
-on_first_or_last : (image : Image) (area : Area) (at width page : ℕ) → 0 < width → width ≤ 4 → HasByteOn image area at width page → (page ≡ page_of image area at) ⊎ (page ≡ page_of image area (at + width - 1))
+on_first_or_last : (image : Image) (area : ByteArea) (at width page : ℕ) → 0 < width → width ≤ 4 → HasByteOn image area at width page → (page ≡ page_of image area at) ⊎ (page ≡ page_of image area (at + width - 1))
 on_first_or_last image area at width page some few on = elim (cases_eq page (page_of image area at)) [
   | inl e ↦ inl e
   | inr ne ↦ (let from = on.1 in let below = on.2 in let e = on.3 in inr (omega arith))
@@ -209,16 +206,12 @@ writes_mark image area at page piece some few lt =
 block_pages : (blocks : List (Option (List ℕ))) (n at : ℕ) (piece : List ℕ) → 0 < length piece → at + length piece ≤ length (bytes_in (slice_index_or blocks n None))
     → pages_of (Some (overwritten (bytes_in (slice_index_or blocks n None)) at piece)) ≡ pages_of (slice_index_or blocks n None)
 block_pages blocks n at piece some there =
-    ap (λ k. (k + 255) / 256) (length-overwritten (bytes_in (slice_index_or blocks n None)) at piece there) ∙ pages_there (slice_index_or blocks n None) (omega arith)
+    ap (λ k. (k + 255) / 256) (length_overwritten (bytes_in (slice_index_or blocks n None)) at piece there) ∙ pages_there (slice_index_or blocks n None) (omega arith)
 
-first_page_stays : (image : Image) (n at : ℕ) (piece : List ℕ) (other : Area) → n < length image.data_blocks → 0 < length piece → AreIn image (Db n) at (length piece) → first_page (written (Db n) at piece image) other ≡ first_page image other
+first_page_stays : (image : Image) (n at : ℕ) (piece : List ℕ) (other : ByteArea) → n < length image.data_blocks → 0 < length piece → AreIn image (Db n) at (length piece) → first_page (written (Db n) at piece image) other ≡ first_page image other
 first_page_stays image n at piece I lt some there = refl
 first_page_stays image n at piece Q lt some there = refl
 first_page_stays image n at piece M lt some there = refl
-first_page_stays image n at piece Timers lt some there = refl
-first_page_stays image n at piece Counters lt some there = refl
-first_page_stays image n at piece Registers lt some there =
-    ap (λ k. 41 + k) (pages_set image.data_blocks n _ lt (block_pages image.data_blocks n at piece some there))
 first_page_stays image n at piece (Db m) lt some there =
     ap (λ k. 41 + k) (pages_take_set image.data_blocks n m _ lt (block_pages image.data_blocks n at piece some there))
 
@@ -226,8 +219,5 @@ pub pages_stay : PagesStay
 pages_stay image I other at place piece some there = refl
 pages_stay image Q other at place piece some there = refl
 pages_stay image M other at place piece some there = refl
-pages_stay image Timers other at place piece some there = refl
-pages_stay image Counters other at place piece some there = refl
-pages_stay image Registers other at place piece some there = refl
 pages_stay image (Db n) other at place piece some there =
     ap (λ k. k + (offset other + place) / 256) (first_page_stays image n at piece other (block_is image.data_blocks n (omega arith)) some there)

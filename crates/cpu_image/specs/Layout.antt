@@ -21,9 +21,6 @@ laid program = record {
   inputs = replicate 64 0;
   outputs = replicate 64 0;
   bit_memory = replicate 1024 0;
-  timers = replicate 6144 0;
-  counters = replicate 1024 0;
-  registers = replicate 256 0;
   data_blocks = first_bytes_below program.data_blocks 256;
   marks = replicate (42 + all_pages program.data_blocks) false;
 }

@@ -1,13 +1,13 @@
 //! The areas of a CPU, read and written by bytes and bits.
-ghost use Rattle.std.specs.Prelude.{◌≡◌, ℕ, ◌+◌, ◌-◌, ◌*◌, ◌^◌, ◌<◌, ◌≤◌, List, [], ◌∷◌, length, ◌↔◌, false, OnOk, OnErr, IfOk, Err, drop, slice_index, slice_range, slice_set};
+ghost use Rattle.std.specs.Prelude.{◌≡◌, ℕ, ◌+◌, ◌-◌, ◌*◌, ◌^◌, ◌<◌, ◌≤◌, List, [], ◌∷◌, length, ◌↔◌, false, OnOk, OnErr, IfOk, IfSome, Err, drop, slice_get, slice_index, slice_range, slice_set};
 ghost use Rattle.std.specs.Option.{option_copied, option_map};
 ghost use Rattle.std.specs.Int.{bytes_high_first};
 ghost use Rattle.cpu_image.specs.Values.{IsWidth, value_of, bit_in, with_bit, overwritten};
 ghost use Rattle.cpu_image.specs.Image.{Image, bytes_of, area_bytes, with_bytes, IsMissing, EndsBefore, value_at, bit_at};
-ghost use Rattle.cpu_image.specs.Pages.{HasSizes, page_count, page_of, first_page, offset, is_marked, written, value_written, bit_written};
+ghost use Rattle.cpu_image.specs.Pages.{HasSizes, page_count, page_of, first_page, offset, is_marked, with_inputs, written, value_written, bit_written};
 
+use crate::area::ByteArea;
 use crate::data::{DataBytes, put_piece};
-use s7_base::Area;
 use std::marker::Model;
 
 /// The page of the first data block.
@@ -31,9 +31,6 @@ pub struct CpuImage {
     pub(crate) inputs: [u8; 64],
     pub(crate) outputs: [u8; 64],
     pub(crate) bit_memory: [u8; 1024],
-    pub(crate) timers: [u8; 6144],
-    pub(crate) counters: [u8; 1024],
-    pub(crate) registers: [u8; 256],
     /// The data blocks, each at its number.
     pub(crate) data_blocks: Vec<Option<DataBytes>>,
     /// The page on which the data block of a number begins, or would.
@@ -48,7 +45,7 @@ impl Model for CpuImage {
 
     ghost Value = { Image };
 
-    ghost view = { λ m. record { inputs = m.inputs; outputs = m.outputs; bit_memory = m.bit_memory; timers = m.timers; counters = m.counters; registers = m.registers; data_blocks = m.data_blocks.items; marks = m.marks.items } };
+    ghost view = { λ m. record { inputs = m.inputs; outputs = m.outputs; bit_memory = m.bit_memory; data_blocks = m.data_blocks.items; marks = m.marks.items } };
 
     ghost invariant = { λ m. (length m.data_blocks.items ≡ 256) × (length m.marks.items ≡ 42 + data_pages m.data_blocks.items) × (length m.marks.items ≤ 298) × ((n : ℕ) → n < 256 → slice_index m.first_pages n ≡ 41 + data_pages (take n m.data_blocks.items)) };
 }
@@ -68,23 +65,18 @@ impl CpuImage {
         let _inputs: &[u8] = &self.inputs;
         let _outputs: &[u8] = &self.outputs;
         let _bit_memory: &[u8] = &self.bit_memory;
-        let _timers: &[u8] = &self.timers;
-        let _counters: &[u8] = &self.counters;
-        let _registers: &[u8] = &self.registers;
     }
 
     /// The bytes of an area. None exactly where it is a data block that is not there.
-    fn bytes(&self, area: Area) -> Option<&[u8]>
-        ensures { option_copied result ≡ bytes_of self.now area }
+    fn bytes(&self, area: ByteArea) -> Option<&[u8]>
+        ensures bytes { option_copied result ≡ bytes_of self.now area }
+        ensures few { IfSome result (λ bytes. length bytes.now ≤ 8192) }
     {
         match area {
-            Area::I => Some(&self.inputs),
-            Area::Q => Some(&self.outputs),
-            Area::M => Some(&self.bit_memory),
-            Area::Timers => Some(&self.timers),
-            Area::Counters => Some(&self.counters),
-            Area::Registers => Some(&self.registers),
-            Area::Db(number) => {
+            ByteArea::I => Some(&self.inputs),
+            ByteArea::Q => Some(&self.outputs),
+            ByteArea::M => Some(&self.bit_memory),
+            ByteArea::Db(number) => {
                 let Some(data) = &self.data_blocks[usize::from(number)] else {
                     return None;
                 };
@@ -93,16 +85,40 @@ impl CpuImage {
         }
     }
 
-    /// Returns the number of bytes of an area. None exactly where it is a data block that is not there.
-    pub fn byte_count(&self, area: Area) -> Option<usize>
-        ensures { result ≡ option_map (λ (bytes : List ℕ). length bytes) (bytes_of self.now area) }
+    /// Returns the number of bytes of an area, at most 8,192. None exactly where it is a data block that is not there.
+    pub fn byte_count(&self, area: ByteArea) -> Option<usize>
+        ensures count { result ≡ option_map (λ (bytes : List ℕ). length bytes) (bytes_of self.now area) }
+        ensures few { IfSome result (λ count. count ≤ 8192) }
     {
         let bytes = self.bytes(area)?;
         Some(bytes.len())
     }
 
+    /// Returns the byte of an area at an address. None exactly where there is none, or no such area.
+    pub fn get(&self, area: ByteArea, at: usize) -> Option<u8>
+        ensures { result ≡ slice_get (area_bytes self.now area) at }
+    {
+        let bytes = self.bytes(area)?;
+        bytes.get(at).copied()
+    }
+
+    /// Returns the output image.
+    pub fn outputs(&self) -> [u8; 64]
+        ensures { result ≡ self.now.outputs }
+    {
+        self.outputs
+    }
+
+    /// Puts an input image in place of the one that it has, and marks its page.
+    pub fn set_inputs(&mut self, image: [u8; 64])
+        ensures { self.new ≡ with_inputs self.old image }
+    {
+        self.inputs = image;
+        self.marks[0] = true;
+    }
+
     /// Some bytes of an area.
-    fn piece(&self, area: Area, at_byte: u16, width: u8) -> Result<&[u8], ImageFault>
+    fn piece(&self, area: ByteArea, at_byte: u16, width: u8) -> Result<&[u8], ImageFault>
         ensures block { (result ≡ Err ImageFault.NoSuchBlock) ↔ IsMissing self.now area }
         ensures address { (result ≡ Err ImageFault.NoSuchAddress) ↔ EndsBefore self.now area (at_byte + width) }
         ensures piece { IfOk result (λ piece. piece.now ≡ slice_range (area_bytes self.now area) at_byte (at_byte + width)) }
@@ -124,7 +140,7 @@ impl CpuImage {
     /// # Errors
     /// `NoSuchBlock` exactly where the area is a data block that is not there, and else `NoSuchAddress` exactly where
     /// the area ends before the byte does.
-    pub fn read_bit(&self, area: Area, at_byte: u16, bit: u8) -> Result<bool, ImageFault>
+    pub fn read_bit(&self, area: ByteArea, at_byte: u16, bit: u8) -> Result<bool, ImageFault>
         requires { bit < 8 }
         ensures block { (result ≡ Err ImageFault.NoSuchBlock) ↔ IsMissing self.now area }
         ensures address { (result ≡ Err ImageFault.NoSuchAddress) ↔ EndsBefore self.now area (at_byte + 1) }
@@ -139,7 +155,7 @@ impl CpuImage {
     /// # Errors
     /// `NoSuchBlock` exactly where the area is a data block that is not there, and else `NoSuchAddress` exactly where
     /// the area ends before the last of the bytes does.
-    pub fn read(&self, area: Area, at_byte: u16, width: u8) -> Result<u32, ImageFault>
+    pub fn read(&self, area: ByteArea, at_byte: u16, width: u8) -> Result<u32, ImageFault>
         requires { IsWidth width }
         ensures block { (result ≡ Err ImageFault.NoSuchBlock) ↔ IsMissing self.now area }
         ensures address { (result ≡ Err ImageFault.NoSuchAddress) ↔ EndsBefore self.now area (at_byte + width) }
@@ -156,7 +172,7 @@ impl CpuImage {
     /// the area ends before the byte does.
     pub fn write_bit(
         &mut self,
-        area: Area,
+        area: ByteArea,
         at_byte: u16,
         bit: u8,
         value: bool,
@@ -180,7 +196,7 @@ impl CpuImage {
     /// the area ends before the last of the bytes does.
     pub fn write(
         &mut self,
-        area: Area,
+        area: ByteArea,
         at_byte: u16,
         width: u8,
         value: u32,
@@ -215,7 +231,7 @@ impl CpuImage {
         }
     }
 
-    fn byte(&self, area: Area, at_byte: u16) -> Result<u8, ImageFault>
+    fn byte(&self, area: ByteArea, at_byte: u16) -> Result<u8, ImageFault>
         ensures block { (result ≡ Err ImageFault.NoSuchBlock) ↔ IsMissing self.now area }
         ensures address { (result ≡ Err ImageFault.NoSuchAddress) ↔ EndsBefore self.now area (at_byte + 1) }
         ensures byte { IfOk result (λ byte. byte ≡ slice_index (area_bytes self.now area) at_byte) }
@@ -226,22 +242,19 @@ impl CpuImage {
     }
 
     /// The page on which an area begins.
-    fn first_page(&self, area: Area) -> usize
+    fn first_page(&self, area: ByteArea) -> usize
         ensures { result ≡ first_page self.now area }
     {
         match area {
-            Area::I | Area::Q => 0,
-            Area::M => 1,
-            Area::Timers => 5,
-            Area::Counters => 29,
-            Area::Db(number) => self.first_pages[usize::from(number)],
-            Area::Registers => self.marks.len() - 1,
+            ByteArea::I | ByteArea::Q => 0,
+            ByteArea::M => 1,
+            ByteArea::Db(number) => self.first_pages[usize::from(number)],
         }
     }
 
     /// The page of a byte of an area.
     #[tactic(auto, using(crate::proofs::Pages::page_is_there))]
-    fn page_of(&self, area: Area, at: usize) -> usize
+    fn page_of(&self, area: ByteArea, at: usize) -> usize
         requires near { at < 2 ^ 32 }
         requires there { at < length (area_bytes self.now area) }
         ensures page { result ≡ page_of self.now area at }
@@ -252,19 +265,16 @@ impl CpuImage {
     }
 
     /// Writes a piece over bytes of an area. Their pages are not marked.
-    fn put_bytes(&mut self, area: Area, at: usize, piece: &[u8])
+    fn put_bytes(&mut self, area: ByteArea, at: usize, piece: &[u8])
         requires some { 0 < length piece.now }
         requires there { at + length piece.now ≤ length (area_bytes self.old area) }
         ensures { self.new ≡ with_bytes self.old area (overwritten (area_bytes self.old area) at piece.now) }
     {
         match area {
-            Area::I => put_piece(&mut self.inputs, at, piece),
-            Area::Q => put_piece(&mut self.outputs, at, piece),
-            Area::M => put_piece(&mut self.bit_memory, at, piece),
-            Area::Timers => put_piece(&mut self.timers, at, piece),
-            Area::Counters => put_piece(&mut self.counters, at, piece),
-            Area::Registers => put_piece(&mut self.registers, at, piece),
-            Area::Db(number) => {
+            ByteArea::I => put_piece(&mut self.inputs, at, piece),
+            ByteArea::Q => put_piece(&mut self.outputs, at, piece),
+            ByteArea::M => put_piece(&mut self.bit_memory, at, piece),
+            ByteArea::Db(number) => {
                 let Some(data) = &mut self.data_blocks[usize::from(number)] else {
                     unreachable!();
                 };
@@ -274,7 +284,7 @@ impl CpuImage {
     }
 
     /// Writes a piece over bytes of an area, and marks the pages of the first and of the last of them.
-    fn put(&mut self, area: Area, at_byte: u16, piece: &[u8])
+    fn put(&mut self, area: ByteArea, at_byte: u16, piece: &[u8])
         requires some { 0 < length piece.now }
         requires few { length piece.now ≤ 4 }
         requires there { at_byte + length piece.now ≤ length (area_bytes self.old area) }
@@ -290,11 +300,11 @@ impl CpuImage {
 }
 
 /// The place in its first page at which an area begins.
-fn begin_of(area: Area) -> usize
+fn begin_of(area: ByteArea) -> usize
     ensures { result ≡ offset area }
 {
     match area {
-        Area::Q => 64,
+        ByteArea::Q => 64,
         _ => 0,
     }
 }

@@ -1,5 +1,7 @@
 //! An image as it begins.
 ghost use Rattle.std.specs.Prelude.{◌≡◌, ◌+◌, ◌<◌, ◌≤◌, ℕ, false, length, take, replicate, slice_index, IfOk};
+ghost use Rattle.std.specs.List.{All};
+ghost use Rattle.s7_base.specs.Limits.{IsData};
 ghost use Rattle.cpu_image.specs.Pages.{pages_of, data_pages};
 ghost use Rattle.cpu_image.specs.Layout.{first_bytes, first_bytes_below, laid};
 
@@ -25,9 +27,6 @@ impl CpuImage {
             inputs: [0; 64],
             outputs: [0; 64],
             bit_memory: [0; 1024],
-            timers: [0; 6144],
-            counters: [0; 1024],
-            registers: [0; 256],
             data_blocks,
             first_pages,
             marks,
@@ -38,6 +37,7 @@ impl CpuImage {
 /// The first bytes of each data block, at its number.
 #[tactic(auto, using(crate::proofs::Loaded::none_below, crate::proofs::Loaded::one_more))]
 fn areas_of(alloc: Global, blocks: &[DataBlock]) -> Result<Vec<Option<DataBytes>>, NoMemory>
+    requires { All IsData blocks.now }
     ensures { IfOk result (λ areas. areas.items ≡ first_bytes_below blocks.now 256) }
 {
     let mut areas = Vec::new(alloc);
@@ -61,11 +61,13 @@ fn no_marks(alloc: Global, pages: usize) -> Result<Vec<bool>, NoMemory>
 }
 
 /// The first bytes of the data block of a number, if it is loaded.
+#[tactic(auto, using(crate::proofs::Loaded::found_is_data))]
 fn bytes_loaded(
     alloc: Global,
     blocks: &[DataBlock],
     number: u8,
 ) -> Result<Option<DataBytes>, NoMemory>
+    requires { All IsData blocks.now }
     ensures { IfOk result (λ bytes. bytes ≡ first_bytes blocks.now number) }
 {
     let Some(block) = blocks.iter().find(|block| block.number() == number) else {

@@ -1,11 +1,13 @@
-//! The image of a CPU: the bytes of its areas, from the inputs to the registers, and a mark for each page of them.
+//! The image of a CPU: the bytes of its areas that statements address, and a mark for each page of all its areas.
 #![tactic(auto)]
 
+mod area;
 mod data;
 mod image;
 mod laws;
 mod lay;
 
+pub use area::ByteArea;
 pub use image::{CpuImage, ImageFault};
 pub use laws::{
     a_bit_written_is_read, a_value_written_is_read, a_write_marks_its_pages,

@@ -83,6 +83,8 @@ counts_flows program block at level since memory lt (flow.Jump target) = lt
 counts_flows program block at level since memory lt (flow.Among number target) = lt
 counts_flows program block at level since memory lt (flow.Call callee) =
     counts_called program (At block (at + 1) level Fresh) level memory callee since lt (code_of program callee.kind callee.number)
+counts_flows program block at level since memory lt (flow.CallInstance callee number) =
+    counts_called program (At block (at + 1) level Fresh) level memory callee since lt (code_of program callee.kind callee.number)
 counts_flows program block at level since memory lt flow.End = lt
 counts_flows program block at level since memory lt (flow.Fail error) =
     counts_failed (At block (at + 1) level Fresh) level memory error since lt (error_entered program level memory error)

@@ -204,10 +204,12 @@ stands_stops program c given e stands =
     ap (std program) (sym (append-nil given)) ∙ stands.goes_on [] ∙ turns c stands.notes (length given) [] Ends (ap (turn_of c.program c.since c.memory) e)
 
 -- at the start
-pub stands_start : (program : Program) (frames : List Frame) (diag : List Note) → frames ≡ [] → diag ≡ start_notes → StandsFor program [] (record { program = program; place = AtOutputs; frames = frames; memory = start_memory; since = 0; at = 0; cycles = start_cycles; diag = diag })
-stands_start program frames diag f d = record {
+pub stands_start : (program : Program) (frames : List Frame) (memory : Memory) (diag : List Note) → frames ≡ [] → memory ≡ start_memory program → diag ≡ start_notes → StandsFor program [] (record { program = program; place = AtOutputs; frames = frames; memory = memory; since = 0; at = 0; cycles = start_cycles; diag = diag })
+stands_start program frames memory diag f m d = record {
   notes = start_notes;
   keeps_newest = d;
   moment = refl;
-  goes_on = λ more. ap (λ fs. body AtOutputs (rest_of never fs) (start program) more) (sym f);
+  goes_on = λ more.
+      ap (λ fs. body AtOutputs (rest_of never fs) (start program) more) (sym f)
+      ∙ ap (λ before. body AtOutputs (rest_of never frames) (record (start program) { memory = before }) more) (sym m);
 }

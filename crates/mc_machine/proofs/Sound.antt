@@ -40,6 +40,8 @@ asked_flow program block at level memory r (flow.Jump target) e = absurd cc
 asked_flow program block at level memory r (flow.Among number target) e = absurd cc
 asked_flow program block at level memory r (flow.Call callee) e =
     absurd (asked_called program (At block (at + 1) level Fresh) level memory callee r (code_of program callee.kind callee.number) e)
+asked_flow program block at level memory r (flow.CallInstance callee number) e =
+    absurd (asked_called program (At block (at + 1) level Fresh) level memory callee r (code_of program callee.kind callee.number) e)
 asked_flow program block at level memory r flow.End e = absurd cc
 asked_flow program block at level memory r (flow.Fail error) e =
     absurd (asked_failed (At block (at + 1) level Fresh) level memory error r (error_entered program level memory error) e)
@@ -55,7 +57,7 @@ asked_run program block at level since memory r (Some statement) e =
     e
 
 pub asked_at : (program : Program) (since : ℕ) (memory : Memory) (p : Place) (r : Request) → turn_of program since memory p ≡ Asks r → IsAskedAt p r.ask
-asked_at program since memory AtOutputs r e = let q : request_of (asks.Outputs memory.outputs) 1 ≡ r = cc in subst (λ (r : Request). IsAskedAt AtOutputs r.ask) q refl
+asked_at program since memory AtOutputs r e = let q : request_of (asks.Outputs memory.image.outputs) 1 ≡ r = cc in subst (λ (r : Request). IsAskedAt AtOutputs r.ask) q refl
 asked_at program since memory AtInputs r e = let q : request_of asks.Inputs 1 ≡ r = cc in subst (λ (r : Request). IsAskedAt AtInputs r.ask) q refl
 asked_at program since memory AtCycle r e = let q : request_of asks.Cycle 1 ≡ r = cc in subst (λ (r : Request). IsAskedAt AtCycle r.ask) q refl
 asked_at program since memory (AtStop code) r e = let q : stop_request code ≡ r = cc in subst (λ (r : Request). IsAskedAt (AtStop code) r.ask) q refl
@@ -204,6 +206,8 @@ changed program c c' block at level memory o flow.Next u f = f
 changed program c c' block at level memory o (flow.Jump target) u f = f
 changed program c c' block at level memory o (flow.Among number target) u f = f
 changed program c c' block at level memory o (flow.Call callee) u f =
+    changed_called program c c' (At block (at + 1) level Fresh) level memory callee o (code_of program callee.kind callee.number) f
+changed program c c' block at level memory o (flow.CallInstance callee number) u f =
     changed_called program c c' (At block (at + 1) level Fresh) level memory callee o (code_of program callee.kind callee.number) f
 changed program c c' block at level memory o flow.End u f = f
 changed program c c' block at level memory o (flow.Fail error) u f =

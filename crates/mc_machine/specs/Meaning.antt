@@ -22,6 +22,7 @@ use Rattle.s7_events.specs.declared.entry.StopCode.TheVariants as stops
 use Rattle.bit_unit.specs.State.{cleared_unit}
 use Rattle.level_stack.specs.declared.level.LevelFault.{LevelFault}
 use Rattle.level_stack.specs.declared.level.LevelFault.TheVariants.{DepthReached, LocalFull}
+use Rattle.cpu_image.specs.Pages as image_pages
 use Rattle.statement_effects.specs.State.{Memory}
 use Rattle.statement_effects.specs.Levels.{with_level, entered, without_block}
 use Rattle.statement_effects.specs.declared.areas.Registers.{Registers}
@@ -200,6 +201,7 @@ flows program block at level memory flow.Next = Moves None (Goes memory (At bloc
 flows program block at level memory (flow.Jump target) = Moves None (Goes memory (At block target level Fresh))
 flows program block at level memory (flow.Among number target) = Moves None (Goes memory (At block (jump_among at number target) level Fresh))
 flows program block at level memory (flow.Call callee) = calls program (At block (at + 1) level Fresh) level memory callee
+flows program block at level memory (flow.CallInstance callee number) = calls program (At block (at + 1) level Fresh) level memory callee
 flows program block at level memory flow.End = Moves None (Goes memory (At block (length (statements_of program block)) level Fresh))
 flows program block at level memory (flow.Fail error) = fails program (At block (at + 1) level Fresh) level memory error
 flows program block at level memory flow.AskNow = Asks (request_of asks.Now level.priority)
@@ -214,7 +216,7 @@ abbrev pub stop_request : StopCode → Request
 stop_request code = request_of (asks.Stop code) 30
 
 abbrev pub turn_of : Program → ℕ → Memory → Place → Turn
-turn_of program since memory AtOutputs = Asks (request_of (asks.Outputs memory.outputs) 1)
+turn_of program since memory AtOutputs = Asks (request_of (asks.Outputs memory.image.outputs) 1)
 turn_of program since memory AtInputs = Asks (request_of asks.Inputs 1)
 turn_of program since memory AtCycle = Asks (request_of asks.Cycle 1)
 turn_of program since memory (AtStop code) = Asks (stop_request code)
@@ -257,7 +259,7 @@ resumed (AtStop code) = AtStop code
 resumed Over = Over
 
 abbrev pub with_inputs : Memory → List ℕ → Memory
-with_inputs memory image = record memory { inputs = image }
+with_inputs memory image = record memory { image = image_pages.with_inputs memory.image image }
 
 -- the end of OB1 leads to the end of the cycle, with the registers that it began over
 abbrev pub cycle_frame : Frame
@@ -454,7 +456,7 @@ abbrev pub start_cycles : Cycles
 start_cycles = record { began_at = 0; last_length = 0; first_over = false }
 
 abbrev pub start : Program → State
-start program = record { program = program; memory = start_memory; since = 0; cycles = start_cycles; notes = start_notes; taken = 0 }
+start program = record { program = program; memory = start_memory program; since = 0; cycles = start_cycles; notes = start_notes; taken = 0 }
 
 -- what the standard CPU does with a program and answers
 abbrev pub std : Program → List Answer → End

@@ -1,5 +1,5 @@
 -- Which programs are supported.
-use Rattle.std.specs.Prelude.{◌≡◌, ℕ, ◌==◌, ◌&&◌, ◌||◌, Bool, true, not, [], All, IsTrue}
+use Rattle.std.specs.Prelude.{ℕ, ◌==◌, ◌&&◌, ◌||◌, Bool, true, not, All, IsTrue}
 use Rattle.instruction_set.specs.declared.operands.OperandArea.TheVariants.{Local}
 use Rattle.s7_base.specs.declared.statement.Statement.{Statement}
 use Rattle.s7_base.specs.declared.blocks.CodeKind.{CodeKind}
@@ -26,7 +26,6 @@ pub record IsPlayableCode (code : Code) : Type 0 where
   pub begins : IsTrue (may_begin code.kind code.number)
   pub each : All (λ s. IsTrue (may_stand_in code.kind s)) code.statements
 
--- the program is one that is supported: it has no data block
+-- the program is one that is supported
 pub record IsPlayable (program : Program) : Type 0 where
   pub codes : All IsPlayableCode program.codes
-  pub data_blocks : program.data_blocks ≡ []

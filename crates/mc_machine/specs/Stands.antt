@@ -11,11 +11,14 @@ use Rattle.s7_events.specs.declared.diagnostics.Area.TheVariants.{I, Q, M, Db, T
 use Rattle.s7_base.specs.declared.blocks.BlockRef.{BlockRef}
 use Rattle.s7_base.specs.Blocks.{Program}
 use Rattle.level_stack.specs.Levels.{LevelState}
+use Rattle.cpu_image.specs.declared.area.ByteArea.TheVariants as byte_areas
+use Rattle.cpu_image.specs.Image as image
+use Rattle.cpu_image.specs.Pages as image_pages
 use Rattle.statement_effects.specs.State.{Memory}
 use Rattle.mc_machine.specs.Places.{Level, Mode, Place, AtOutputs, AtInputs, AtCycle, AtStop, Over, At, Frame, Note}
 use Rattle.timers.specs.Bytes as timer_form
 use Rattle.counters.specs.Bytes as counter_form
-use Rattle.statement_effects.specs.Areas.{with_registers}
+use Rattle.statement_effects.specs.Areas.{with_registers, data_length}
 use Rattle.statement_effects.specs.CounterEffect.{counter_at}
 use Rattle.mc_machine.specs.Meaning.{Cycles, State, End, Waits, Stopped, Rest, Move, Goes, Calls, Reaction, Again, Completes, Turn, Asks, Moves, Halts, Leaves, Ends, stop_request, at_block_end, restored, resume, body, takes, is_dated, stops_cpu, turn_of, never, std}
 
@@ -245,12 +248,12 @@ register_head c =
 abbrev pub register_bytes : Config → List ℕ
 register_bytes c = register_head c ++ replicate 232 0
 
--- the bytes of an area; no data block is loaded yet
+-- the bytes of an area: none where it is a data block that is not loaded
 abbrev pub area_bytes : Config → Area → List ℕ
-area_bytes c I = c.memory.inputs
-area_bytes c Q = c.memory.outputs
-area_bytes c M = c.memory.flags
-area_bytes c (Db number) = []
+area_bytes c I = c.memory.image.inputs
+area_bytes c Q = c.memory.image.outputs
+area_bytes c M = c.memory.image.bit_memory
+area_bytes c (Db number) = image.area_bytes c.memory.image (byte_areas.Db number)
 area_bytes c Timers = flat_map timer_form.bytes_of c.memory.timers
 area_bytes c Counters = flat_map counter_form.bytes_of c.memory.counters
 area_bytes c Registers = register_bytes c
@@ -265,11 +268,14 @@ abbrev pub counter_of : Option Running → ℕ → ℕ
 counter_of None n = 0
 counter_of (Some running) n = (counter_at running.config.memory n).value
 
+-- how many bytes a data block has, if it is loaded
+abbrev pub block_length_of : Option Running → ℕ → Option ℕ
+block_length_of None number = None
+block_length_of (Some running) number = data_length running.config.memory number
+
 -- the areas have their sizes
 pub record HasSizes (memory : Memory) : Type 0 where
-  pub inputs : length memory.inputs ≡ 64
-  pub outputs : length memory.outputs ≡ 64
-  pub flags : length memory.flags ≡ 1024
+  pub image : image_pages.HasSizes memory.image
   pub timers : length memory.timers ≡ 256
   pub counters : length memory.counters ≡ 256
 

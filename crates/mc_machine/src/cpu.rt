@@ -1,12 +1,12 @@
 //! The machine, whose inside its users do not see.
-ghost use Rattle.std.specs.Prelude.{◌≡◌, ◌≤◌, ℕ, ◌++◌, ◌∷◌, [], List, length, Option, Some, None, slice_get, false, IsTrue, OnOk, OnErr, ◌↔◌, flat_map};
+ghost use Rattle.std.specs.Prelude.{◌≡◌, ◌≤◌, ℕ, ◌++◌, ◌∷◌, [], List, length, Option, Some, None, slice_get, false, IfSome, IsTrue, OnOk, OnErr, ◌↔◌, flat_map};
 ghost use Rattle.timers.specs.Bytes as timer_form;
 ghost use Rattle.counters.specs.Bytes as counter_form;
 ghost use Rattle.std.specs.Option.{option_map};
 ghost use Rattle.s7_base.specs.Blocks.{Program};
 ghost use Rattle.mc_machine.specs.Playable.{IsPlayable};
 ghost use Rattle.mc_machine.specs.EngineView.{config_of};
-ghost use Rattle.mc_machine.specs.Stands.{IsIdle, IsRunning, CanAsk, CanTake, IsDated, CanGoOn, IsAsked, HasStopped, WaitsAt, Stands, CpuWaits, CpuStopped, area_bytes, OfRunning, HasSizes, byte_of, counter_of, notes_of};
+ghost use Rattle.mc_machine.specs.Stands.{IsIdle, IsRunning, CanAsk, CanTake, IsDated, CanGoOn, IsAsked, HasStopped, WaitsAt, Stands, CpuWaits, CpuStopped, area_bytes, OfRunning, HasSizes, byte_of, block_length_of, counter_of, notes_of};
 
 use crate::codes::decoded_codes;
 use crate::engine::Engine;
@@ -53,7 +53,8 @@ impl Machine {
     {
         let program = blocks.copy(alloc)?;
         let decoded = decoded_codes(alloc, program.codes())?;
-        self.engine = Some(Engine::start(program, decoded));
+        let memory = Memory::start(alloc, &program)?;
+        self.engine = Some(Engine::start(program, decoded, memory));
         Ok(())
     }
 
@@ -154,12 +155,20 @@ impl Machine {
         }
     }
 
-    /// The number of bytes of a data block. None is loaded yet.
-    pub fn block_length(&self, _n: u8) -> Option<u16>
+    /// The number of bytes of a data block, at most 8,192. None exactly where it is not loaded.
+    pub fn block_length(&self, n: u8) -> Option<u16>
         requires { IsRunning self.now }
-        ensures { result ≡ None }
+        ensures length { result ≡ block_length_of self.now n }
+        ensures few { IfSome result (λ length. length ≤ 8192) }
+        ensures sizes { OfRunning self.now (λ running. HasSizes running.config.memory) }
     {
-        None
+        match &self.engine {
+            Some(engine) => {
+                show_sizes(engine.memory());
+                engine.memory().data_length(n)
+            }
+            None => None,
+        }
     }
 }
 
@@ -210,6 +219,6 @@ fn area_byte(engine: &Engine, area: Area, at_byte: u16) -> Option<u8>
         Area::Timers => timer_byte(memory, at),
         Area::Counters => counter_byte(memory, at),
         Area::Registers => engine.register_byte(at),
-        Area::Db(_) => None,
+        Area::Db(number) => memory.byte(ByteArea::Db(number), at),
     }
 }

@@ -3,6 +3,7 @@ ghost use Rattle.std.specs.Prelude.{◌≡◌, ◌≢◌, ℕ, ◌+◌, ◌-◌,
 ghost use Rattle.s7_base.specs.Blocks.{Program};
 ghost use Rattle.s7_events.specs.declared.entry.Answer.{Answer};
 ghost use Rattle.s7_base.specs.declared.blocks.BlockRef.{BlockRef};
+ghost use Rattle.statement_effects.specs.Areas.{start_memory};
 ghost use Rattle.mc_machine.specs.Meaning.{error_registers, fails, begun, calls, turn_of, flows, jump_among, cycle_length, cycles_after, answered, takes, stops_cpu, begins_main, lost_note, again_mode, again, resumed, timed_at, Leaves, Waits, std, request_of, stop_request};
 ghost use Rattle.mc_machine.specs.Stands.{Running, state_of, newest, with_newest, StandsFor, IsMoved, IsTurned, halts_with, Reacts, Follows, register_head, register_bytes, IsHigh, AreStacked, AreBegun, IsSound, IsValid, IsAskedAt, AsksAt, Keeps, IsTaken, IsDated, IsAsked, GoesOn};
 ghost use Rattle.mc_machine.specs.Places.{AtInputs, Over, At, Fresh};
@@ -139,8 +140,10 @@ fn again_mode(ask: &Ask, mode: Mode) -> Mode
 
 impl Engine {
     /// The CPU at the start of its first cycle.
-    pub fn start(program: Blocks, decoded: Vec<DecodedBlock>) -> Engine
+    #[tactic(auto, using(crate::proofs::Keeps::stands_start))]
+    pub fn start(program: Blocks, decoded: Vec<DecodedBlock>, memory: Memory) -> Engine
         requires decoded { decoded.items ≡ decoded_codes program.codes }
+        requires memory { memory ≡ start_memory program }
         ensures valid { IsValid (running_of result) }
         ensures stored { IsStored result }
         ensures going { (config_of result).place ≢ Over }
@@ -156,7 +159,7 @@ impl Engine {
             program,
             decoded,
             index,
-            memory: Memory::start(),
+            memory,
             since: 0,
             at: 0,
             began_at: 0,
@@ -550,7 +553,9 @@ impl Engine {
             Flow::Jump(target) => target as usize,
             Flow::Among { number, target } => jump_among(spot.at, number, target),
             Flow::End => end_of(&self.program, spot),
-            Flow::Call(callee) => return self.call(callee, spot),
+            Flow::Call(callee) | Flow::CallInstance(callee, _) => {
+                return self.call(callee, spot);
+            }
             Flow::Fail(error) => return self.fail_statement(error, spot),
             Flow::AskNow => return self.wait_at(block_request(Ask::Now, spot.level)),
         };

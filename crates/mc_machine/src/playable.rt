@@ -43,10 +43,9 @@ fn are_playable(codes: &[CodeBlock]) -> bool
     codes.iter().all(|code| is_playable_code(code))
 }
 
-/// Returns whether a program is one that is supported: it has no data block and no organisation block besides OB1, OB121 and
-/// OB122; each statement is supported (`is_supported`), and in organisation blocks none is on local data.
+/// Returns whether a program is one that is supported: it has no organisation block besides OB1, OB121 and OB122; each statement is supported (`is_supported`), and in organisation blocks none is on local data.
 pub fn is_playable(blocks: &Blocks) -> bool
     ensures { IsTrue result ↔ IsPlayable blocks.now }
 {
-    blocks.data_blocks().is_empty() && are_playable(blocks.codes())
+    are_playable(blocks.codes())
 }

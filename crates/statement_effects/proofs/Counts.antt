@@ -1,5 +1,5 @@
 -- No statement begins or ends a block.
-use Rattle.std.proofs.Common.{◌≡◌, ℕ, Bool, true, false, List, Result, Ok, Err, refl}
+use Rattle.std.proofs.Common.{◌≡◌, ℕ, Bool, true, false, List, Option, Some, None, Result, Ok, Err, refl, ◌∙◌}
 use Rattle.std.specs.Prelude.{◌+◌, ◌%◌, ◌&&◌, not, nat_le, length, if◌then◌else◌}
 use Rattle.std.proofs.lemmas.Bool.{cond_both}
 use Rattle.instruction_set.specs.declared.operation.BitWrite.TheVariants as writes
@@ -10,8 +10,10 @@ use Rattle.level_stack.specs.Levels.{running_locals, block_counts}
 use Rattle.level_stack.proofs.Counts.{written_counts}
 use Rattle.statement_effects.specs.State.{Memory}
 use Rattle.statement_effects.specs.declared.areas.Registers.{Registers}
-use Rattle.statement_effects.specs.declared.instruction.ByteArea.{ByteArea}
-use Rattle.statement_effects.specs.declared.instruction.ByteArea.TheVariants.{I, Q, M}
+use Rattle.cpu_image.specs.Values.{with_bit}
+use Rattle.cpu_image.specs.declared.area.ByteArea.TheVariants.{Db}
+use Rattle.statement_effects.specs.declared.instruction.DataBlockName.{DataBlockName}
+use Rattle.statement_effects.specs.declared.instruction.DataBlockName.TheVariants.{Opened, Instance, Numbered}
 use Rattle.statement_effects.specs.declared.instruction.BitOperand.{BitOperand}
 use Rattle.statement_effects.specs.declared.instruction.BitOperand.TheVariants as bit_operands
 use Rattle.statement_effects.specs.declared.instruction.ValueOperand.{ValueOperand}
@@ -28,8 +30,8 @@ use Rattle.statement_effects.specs.declared.instruction.TimedOperation.{TimedOpe
 use Rattle.statement_effects.specs.declared.instruction.TimedOperation.TheVariants as timed
 use Rattle.statement_effects.specs.declared.instruction.Instruction.{Instruction}
 use Rattle.statement_effects.specs.declared.instruction.Instruction.TheVariants as groups
-use Rattle.statement_effects.specs.Areas.{with_bytes, with_bit, with_bit_at, with_value_at, bytes_in, low_part, local_value, is_off}
-use Rattle.statement_effects.specs.Resolving.{in_locals, resolve_bit, resolve_value, at_bit, at_value}
+use Rattle.statement_effects.specs.Areas.{data_length, with_bit_at, with_value_at, bytes_in, low_part, local_value, is_off}
+use Rattle.statement_effects.specs.Resolving.{in_locals, data_number, with_named, in_bytes, in_block, in_data, placed, resolve_bit, resolve_value, at_bit, at_value}
 use Rattle.statement_effects.specs.BitEffect.{with_bit_where, effect_bit, effect_group}
 use Rattle.statement_effects.specs.MoveEffect.{effect_move, effect_direct, transferred}
 use Rattle.statement_effects.specs.NumberEffect.{effect_number}
@@ -54,15 +56,11 @@ registers_begun : (m : Memory) (r : Result Registers ℕ) → Begun m (onward_wi
 registers_begun m (Ok registers) = refl
 registers_begun m (Err error) = refl
 
-bytes_begun : (m : Memory) (area : ByteArea) (bytes : List ℕ) → Begun m (with_bytes m area bytes)
-bytes_begun m I bytes = refl
-bytes_begun m Q bytes = refl
-bytes_begun m M bytes = refl
-
 -- bits and values
 
 bit_begun : (m : Memory) (place : BitOperand) (value : Bool) → Begun m (with_bit_at m place value)
-bit_begun m (bit_operands.Area place) value = bytes_begun m place.area _
+bit_begun m (bit_operands.Area place) value = refl
+bit_begun m (bit_operands.Data place) value = refl
 bit_begun m (bit_operands.Local place) value = written_counts m.levels place.at_byte 1 (with_bit (local_value m place.at_byte 1) place.bit value)
 
 where_begun : (b : Bool) (m : Memory) (place : BitOperand) (value : Bool) → Begun m (with_bit_where b m place value)
@@ -77,7 +75,8 @@ bits_begun (bits.Write writes.Reset) place m = where_begun (m.registers.status.r
 bits_begun (bits.Edge edge) place m = bit_begun m place _
 
 value_begun : (m : Memory) (place : ValueOperand) (value : ℕ) → Begun m (with_value_at m place value)
-value_begun m (value_operands.Area place) value = bytes_begun m place.area _
+value_begun m (value_operands.Area place) value = refl
+value_begun m (value_operands.Data place) value = refl
 value_begun m (value_operands.Local place) value = written_counts m.levels place.at_byte (bytes_in place.width) (low_part place.width value)
 
 moves_begun : (i : MoveInstruction) (place : ValueOperand) (m : Memory) → Begun m (effect_move i place m)
@@ -91,17 +90,44 @@ direct_begun direct.StoreStatus m = refl
 
 -- operands that are found
 
+-- a data block is found, and then opened where it was named, or it is an error
+bytes_found : (P : Result (Memory × ℕ) ℕ → Type 0) (end : ℕ) (length : Option ℕ) (found : Memory × ℕ) → P (Ok found) → ((error : ℕ) → P (Err error)) → P (in_bytes end length found)
+bytes_found P end None found ok err = err 8
+bytes_found P end (Some length) found ok err = cond_both (nat_le end length) _ _ P (λ e. ok) (λ e. err 2)
+
+block_found : (P : Result (Memory × ℕ) ℕ → Type 0) (end : ℕ) (number : Option ℕ) (m after : Memory) → ((n : ℕ) → P (Ok (after, n))) → ((error : ℕ) → P (Err error)) → P (in_block end number m after)
+block_found P end None m after ok err = err 8
+block_found P end (Some number) m after ok err = bytes_found P end (data_length m number) (after, number) (ok number) err
+
+data_found : (P : Result (Memory × ℕ) ℕ → Type 0) (name : DataBlockName) (end : ℕ) (m : Memory) → ((n : ℕ) → P (Ok (with_named name m, n))) → ((error : ℕ) → P (Err error)) → P (in_data name end m)
+data_found P name end m ok err = block_found P end (data_number name m.registers.«data») m (with_named name m) ok err
+
+named_begun : (name : DataBlockName) (m : Memory) → Begun m (with_named name m)
+named_begun Opened m = refl
+named_begun Instance m = refl
+named_begun (Numbered number) m = refl
+
 found_bit : (i : BitInstruction) (operand : BitOperand) (m : Memory) → BegunIf m (at_bit (effect_bit i) (resolve_bit operand m))
 found_bit i (bit_operands.Area place) m = bits_begun i (bit_operands.Area place) m
 found_bit i (bit_operands.Local place) m =
     cond_both (nat_le (place.at_byte + 1) (length (running_locals m.levels))) _ _ (λ r. BegunIf m (at_bit (effect_bit i) r))
     (λ e. bits_begun i (bit_operands.Local place) m) (λ e. tt)
+found_bit i (bit_operands.Data place) m =
+    data_found (λ r. BegunIf m (at_bit (effect_bit i) (placed (λ number. bit_operands.Area (record { area = Db number; at_byte = place.at_byte; bit = place.bit })) r)))
+    place.block (place.at_byte + 1) m
+    (λ n. bits_begun i (bit_operands.Area (record { area = Db n; at_byte = place.at_byte; bit = place.bit })) (with_named place.block m) ∙ named_begun place.block m)
+    (λ error. tt)
 
 found_value : (i : MoveInstruction) (operand : ValueOperand) (m : Memory) → BegunIf m (at_value (effect_move i) (resolve_value operand m))
 found_value i (value_operands.Area place) m = moves_begun i (value_operands.Area place) m
 found_value i (value_operands.Local place) m =
     cond_both (nat_le (place.at_byte + bytes_in place.width) (length (running_locals m.levels))) _ _ (λ r. BegunIf m (at_value (effect_move i) r))
     (λ e. moves_begun i (value_operands.Local place) m) (λ e. tt)
+found_value i (value_operands.Data place) m =
+    data_found (λ r. BegunIf m (at_value (effect_move i) (placed (λ number. value_operands.Area (record { area = Db number; at_byte = place.at_byte; width = place.width })) r)))
+    place.block (place.at_byte + bytes_in place.width) m
+    (λ n. moves_begun i (value_operands.Area (record { area = Db n; at_byte = place.at_byte; width = place.width })) (with_named place.block m) ∙ named_begun place.block m)
+    (λ error. tt)
 
 -- timers and counters
 
@@ -136,7 +162,9 @@ effect_begun (groups.Jump i) m = refl
 effect_begun (groups.Timer op n) m = refl
 effect_begun (groups.Timed op n) m = refl
 effect_begun (groups.Counter op n) m = onward_begun m (effect_counter op n m) (counter_begun op n m)
+effect_begun (groups.Data i) m = refl
 effect_begun (groups.Call callee) m = refl
+effect_begun (groups.CallInstance callee number) m = refl
 effect_begun (groups.CallWhenSet callee) m = refl
 effect_begun groups.End m = refl
 effect_begun groups.EndWhenSet m = refl

@@ -1,4 +1,5 @@
 pub mod Counts
 pub mod Entering
 pub mod Operands
+pub mod Places
 pub mod SupportedMeans

@@ -15,7 +15,7 @@ use Rattle.instruction_set.specs.Areas.{area_number}
 use Rattle.s7_base.specs.Operands.{is_in, is_data_number, ends_by, is_within, is_of_cpu, is_of_data, is_memory, is_bit, unit_bytes, is_value, is_peripheral, is_number, is_up_to, is_exactly, is_timer_or_counter, is_constant, is_about_data, allows}
 use Rattle.statement_effects.specs.Supported.{is_elsewhere}
 use Rattle.s7_events.specs.Optional.{◌>>=◌}
-use Rattle.statement_effects.specs.declared.instruction.ByteArea.TheVariants.{I, Q, M}
+use Rattle.cpu_image.specs.declared.area.ByteArea.TheVariants.{I, Q, M}
 use Rattle.statement_effects.specs.declared.instruction.Width.TheVariants as widths
 use Rattle.statement_effects.specs.declared.instruction.BitOperand.{BitOperand}
 use Rattle.statement_effects.specs.declared.instruction.BitOperand.TheVariants as bits

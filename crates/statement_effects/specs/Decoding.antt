@@ -7,8 +7,8 @@ use Rattle.s7_events.specs.Optional.{◌>>=◌}
 use Rattle.std.specs.Option.{option_map}
 use Rattle.s7_base.specs.declared.blocks.CodeKind.{CodeKind}
 use Rattle.s7_base.specs.declared.blocks.CodeKind.TheVariants.{Fb, Fc}
-use Rattle.statement_effects.specs.declared.instruction.ByteArea.{ByteArea}
-use Rattle.statement_effects.specs.declared.instruction.ByteArea.TheVariants.{I, Q, M}
+use Rattle.cpu_image.specs.declared.area.ByteArea.{ByteArea}
+use Rattle.cpu_image.specs.declared.area.ByteArea.TheVariants.{I, Q, M}
 use Rattle.statement_effects.specs.declared.instruction.Width.{Width}
 use Rattle.statement_effects.specs.declared.instruction.Width.TheVariants as widths
 use Rattle.statement_effects.specs.declared.instruction.BitOperand.TheVariants as bits

@@ -1,5 +1,6 @@
 -- The operands of instructions lie in their areas.
 use Rattle.std.specs.Prelude.{◌+◌, ◌<◌, ◌≤◌, length}
+use Rattle.cpu_image.specs.Image.{area_bytes}
 use Rattle.level_stack.specs.Levels.{running_locals}
 use Rattle.statement_effects.specs.State.{Memory}
 use Rattle.statement_effects.specs.declared.instruction.BitPlace.{BitPlace}
@@ -22,23 +23,27 @@ IsBitPlaced place = (place.at_byte < size_of place.area) × (place.bit ≤ 7)
 abbrev pub IsValuePlaced : ValuePlace → Type 0
 IsValuePlaced place = place.at_byte + bytes_in place.width ≤ size_of place.area
 
--- a place in an area whose bytes are always there is known to lie in it; of one in the local data the bit is
+-- a place in an area whose bytes are always there is known to lie in it; of one in the local data, or in a data block, the bit is
 abbrev pub IsBitOperand : BitOperand → Type 0
 IsBitOperand (bits.Area place) = IsBitPlaced place
 IsBitOperand (bits.Local place) = place.bit ≤ 7
+IsBitOperand (bits.Data place) = place.bit ≤ 7
 
 abbrev pub IsValueOperand : ValueOperand → Type 0
 IsValueOperand (values.Area place) = IsValuePlaced place
 IsValueOperand (values.Local place) = Unit {0}
+IsValueOperand (values.Data place) = Unit {0}
 
--- a place that was found: one in the local data lies in that of the block that runs
+-- a place that was found: its bytes lie in those that its area has, or in the local data of the block that runs
 abbrev pub IsBitThere : Memory → BitOperand → Type 0
-IsBitThere memory (bits.Area place) = IsBitPlaced place
+IsBitThere memory (bits.Area place) = (place.at_byte + 1 ≤ length (area_bytes memory.image place.area)) × (place.bit ≤ 7)
 IsBitThere memory (bits.Local place) = (place.at_byte + 1 ≤ length (running_locals memory.levels)) × (place.bit ≤ 7)
+IsBitThere memory (bits.Data place) = ⊥
 
 abbrev pub IsValueThere : Memory → ValueOperand → Type 0
-IsValueThere memory (values.Area place) = IsValuePlaced place
+IsValueThere memory (values.Area place) = place.at_byte + bytes_in place.width ≤ length (area_bytes memory.image place.area)
 IsValueThere memory (values.Local place) = place.at_byte + bytes_in place.width ≤ length (running_locals memory.levels)
+IsValueThere memory (values.Data place) = ⊥
 
 abbrev pub IsOperand : Operand → Type 0
 IsOperand (operands.Bit operand) = IsBitOperand operand

@@ -1,13 +1,17 @@
 //! What the statements see.
-ghost use Rattle.std.specs.Prelude.{◌≡◌, length, slice_get};
-ghost use Rattle.statement_effects.specs.Areas.{clear_registers, with_registers, bytes_of, start_memory};
+ghost use Rattle.std.specs.Prelude.{◌≡◌, ◌≤◌, length, slice_get, IfOk, IfSome};
+ghost use Rattle.cpu_image.specs.Image.{area_bytes};
+ghost use Rattle.cpu_image.specs.Pages.{HasSizes, with_inputs};
+ghost use Rattle.statement_effects.specs.Areas.{clear_registers, with_registers, data_length, start_memory};
 
-use crate::instruction::ByteArea;
 use accumulators::Accus;
 use bit_unit::BitUnit;
 use counters::Counter;
+use cpu_image::{ByteArea, CpuImage};
 use level_stack::Levels;
+use s7_base::{Blocks, NoMemory};
 use status_word::StatusWord;
+use std::alloc::Global;
 use std::marker::Model;
 use timers::Timer;
 
@@ -44,13 +48,11 @@ impl Registers {
     }
 }
 
-/// The areas and the registers: the input image, the output image, bit memory, timers, counters and registers; and the levels
-/// with the blocks that have begun, each with its local data.
+/// The areas and the registers: the image of the inputs, the outputs, the bit memory and the data blocks, the timers, counters
+/// and registers; and the levels with the blocks that have begun, each with its local data.
 #[derive(Debug, Drop)]
 pub struct Memory {
-    pub(crate) inputs: [u8; 64],
-    pub(crate) outputs: [u8; 64],
-    pub(crate) flags: [u8; 1024],
+    pub(crate) image: CpuImage,
     pub(crate) timers: [Timer; 256],
     pub(crate) counters: [Counter; 256],
     pub(crate) registers: Registers,
@@ -62,23 +64,26 @@ impl Model for Memory {
 
     ghost Value = { state.Memory };
 
-    ghost view = { λ m. record { inputs = m.inputs; outputs = m.outputs; flags = m.flags; timers = m.timers; counters = m.counters; registers = m.registers; levels = m.levels } };
+    ghost view = { λ m. record { image = m.image; timers = m.timers; counters = m.counters; registers = m.registers; levels = m.levels } };
 }
 
 impl Memory {
-    /// Returns what a CPU sees at its start: all areas are 0, no timer and no counter was used, and no block has begun.
-    pub fn start() -> Memory
-        ensures { result ≡ start_memory }
+    /// Returns what a CPU sees at the start of a program: all areas are 0 but the data blocks, which have their first bytes, no
+    /// timer and no counter was used, and no block has begun. This call alone takes memory.
+    ///
+    /// # Errors
+    /// `NoMemory` only where memory runs out.
+    pub fn start(alloc: Global, blocks: &Blocks) -> Result<Memory, NoMemory>
+        ensures { IfOk result (λ memory. memory ≡ start_memory blocks.now) }
     {
-        Memory {
-            inputs: [0; 64],
-            outputs: [0; 64],
-            flags: [0; 1024],
+        let image = CpuImage::lay(alloc, blocks)?;
+        Ok(Memory {
+            image,
             timers: [Timer::new(); 256],
             counters: [Counter::new(); 256],
             registers: Registers::clear(),
             levels: Levels::new(),
-        }
+        })
     }
 
     /// Returns the registers.
@@ -97,27 +102,32 @@ impl Memory {
 
     /// Returns the output image.
     pub fn outputs(&self) -> [u8; 64]
-        ensures { result ≡ self.now.outputs }
+        ensures { result ≡ self.now.image.outputs }
     {
-        self.outputs
+        self.image.outputs()
     }
 
     /// Puts an input image in place of the one that it has.
     pub fn set_inputs(&mut self, image: [u8; 64])
-        ensures { self.new ≡ record self.old { inputs = image } }
+        ensures { self.new ≡ record self.old { image = with_inputs self.old.image image } }
     {
-        self.inputs = image;
+        self.image.set_inputs(image);
     }
 
-    /// Returns the byte of an area at an address. None exactly where the area has none.
+    /// Returns the byte of an area at an address. None exactly where there is none, or no such area.
     pub fn byte(&self, area: ByteArea, at: usize) -> Option<u8>
-        ensures { result ≡ slice_get (bytes_of self.now area) at }
+        ensures { result ≡ slice_get (area_bytes self.now.image area) at }
     {
-        match area {
-            ByteArea::I => self.inputs.get(at).copied(),
-            ByteArea::Q => self.outputs.get(at).copied(),
-            ByteArea::M => self.flags.get(at).copied(),
-        }
+        self.image.get(area, at)
+    }
+
+    /// Returns the number of bytes of the data block of a number, at most 8,192. None exactly where it is not loaded.
+    pub fn data_length(&self, number: u8) -> Option<u16>
+        ensures length { result ≡ data_length self.now number }
+        ensures few { IfSome result (λ length. length ≤ 8192) }
+    {
+        let count = self.image.byte_count(ByteArea::Db(number))?;
+        Some(count as u16)
     }
 
     /// Returns the timer of a number. None exactly where there is none.
@@ -136,15 +146,11 @@ impl Memory {
 
     /// Shows how many bytes, timers and counters there are.
     pub fn show_sizes(&self)
-        ensures inputs { length self.now.inputs ≡ 64 }
-        ensures outputs { length self.now.outputs ≡ 64 }
-        ensures flags { length self.now.flags ≡ 1024 }
+        ensures image { HasSizes self.now.image }
         ensures timers { length self.now.timers ≡ 256 }
         ensures counters { length self.now.counters ≡ 256 }
     {
-        let _inputs: &[u8] = &self.inputs;
-        let _outputs: &[u8] = &self.outputs;
-        let _flags: &[u8] = &self.flags;
+        self.image.show_sizes();
         let _timers: &[Timer] = &self.timers;
         let _counters: &[Counter] = &self.counters;
     }

@@ -1,22 +1,25 @@
 //! Statements on bits, on the status word, and brackets.
 ghost use Rattle.std.specs.Prelude.{◌≡◌, ◌<◌, ◌≤◌, not, ◌&&◌, OnOk, OnErr, IfErr, Ok, Err};
-ghost use Rattle.statement_effects.specs.Areas.{bit_of, with_bit, area_bit_at, with_area_bit_at, bit_at, with_bit_at, is_off};
-ghost use Rattle.statement_effects.specs.Placed.{IsBitPlaced, IsBitOperand, IsBitThere, HasNumber};
+ghost use Rattle.cpu_image.specs.Values.{bit_in, with_bit};
+ghost use Rattle.statement_effects.specs.Areas.{area_bit_at, with_area_bit_at, bit_at, with_bit_at, is_off};
+ghost use Rattle.statement_effects.specs.Placed.{IsBitOperand, IsBitThere, HasNumber};
 ghost use Rattle.statement_effects.specs.Resolving.{resolve_bit, at_bit};
 ghost use Rattle.statement_effects.specs.BitEffect.{with_bit_where, is_rising, effect_bit, status_operand, effect_status, error_of, effect_group};
 ghost use Rattle.statement_effects.specs.declared.instruction.BitInstruction.TheVariants as bits;
+ghost use Rattle.statement_effects.specs.declared.instruction.BitOperand.TheVariants as bit_operands;
 
 use crate::instruction::{
-    BitInstruction, BitOperand, BitPlace, ByteArea, GroupInstruction, StatusInstruction,
+    BitInstruction, BitOperand, BitPlace, GroupInstruction, StatusInstruction,
 };
 use crate::{Memory, Registers};
 use bit_unit::BitFault;
+use cpu_image::ImageFault;
 use instruction_set::{BitWrite, Edge, MasterControl, RloOperation};
 use status_word::StatusWord;
 
 fn bit_from(byte: u8, bit: u8) -> bool
     requires { bit < 8 }
-    ensures { result ≡ bit_of byte bit }
+    ensures { result ≡ bit_in byte bit }
 {
     (byte >> bit) % 2 == 1
 }
@@ -47,17 +50,15 @@ impl Memory {
         self.registers.unit.zone_off()
     }
 
+    #[tactic(auto, using(crate::proofs::Places::not_missing, crate::proofs::Places::not_past))]
     fn read_area_bit(&self, place: BitPlace) -> bool
-        requires { IsBitPlaced place }
+        requires { IsBitThere self.now (bit_operands.Area place) }
         ensures { result ≡ area_bit_at self.now place }
     {
-        let at = place.at_byte as usize;
-        let byte = match place.area {
-            ByteArea::I => self.inputs[at],
-            ByteArea::Q => self.outputs[at],
-            ByteArea::M => self.flags[at],
-        };
-        bit_from(byte, place.bit)
+        match self.image.read_bit(place.area, place.at_byte, place.bit) {
+            Ok(value) => value,
+            Err(ImageFault::NoSuchBlock | ImageFault::NoSuchAddress) => unreachable!(),
+        }
     }
 
     fn read_bit(&self, place: BitOperand) -> bool
@@ -67,18 +68,21 @@ impl Memory {
         match place {
             BitOperand::Area(place) => self.read_area_bit(place),
             BitOperand::Local(place) => bit_from(self.local_byte(place.at_byte), place.bit),
+            BitOperand::Data(_) => unreachable!(),
         }
     }
 
+    #[tactic(auto, using(crate::proofs::Places::not_missing, crate::proofs::Places::not_past))]
     fn write_area_bit(&mut self, place: BitPlace, value: bool)
-        requires { IsBitPlaced place }
+        requires { IsBitThere self.old (bit_operands.Area place) }
         ensures { self.new ≡ with_area_bit_at self.old place value }
     {
-        let at = place.at_byte as usize;
-        match place.area {
-            ByteArea::I => self.inputs[at] = byte_with(self.inputs[at], place.bit, value),
-            ByteArea::Q => self.outputs[at] = byte_with(self.outputs[at], place.bit, value),
-            ByteArea::M => self.flags[at] = byte_with(self.flags[at], place.bit, value),
+        match self
+            .image
+            .write_bit(place.area, place.at_byte, place.bit, value)
+        {
+            Ok(()) => {}
+            Err(ImageFault::NoSuchBlock | ImageFault::NoSuchAddress) => unreachable!(),
         }
     }
 
@@ -92,6 +96,7 @@ impl Memory {
                 let byte = byte_with(self.local_byte(place.at_byte), place.bit, value);
                 self.put_local_byte(place.at_byte, byte);
             }
+            BitOperand::Data(_) => unreachable!(),
         }
     }
 

@@ -8,20 +8,20 @@ ghost use Rattle.statement_effects.specs.Placed.{IsOperand};
 ghost use Rattle.statement_effects.specs.declared.instruction.Operand.TheVariants as operands;
 
 use crate::instruction::{
-    BitOperand, BitPlace, ByteArea, LocalBit, LocalValue, Operand, ValueOperand, ValuePlace, Width,
+    BitOperand, BitPlace, LocalBit, LocalValue, Operand, ValueOperand, ValuePlace, Width,
 };
+use cpu_image::ByteArea;
 use instruction_set::OperandArea;
 use s7_base::{BlockRef, CodeKind, Statement};
 
-impl ByteArea {
-    /// How many bytes it has.
-    fn size(self) -> u16
-        ensures { result ≡ size_of self }
-    {
-        match self {
-            ByteArea::I | ByteArea::Q => 64,
-            ByteArea::M => 1024,
-        }
+/// How many bytes an area has in any case.
+fn size_of(area: ByteArea) -> u16
+    ensures { result ≡ size_of area }
+{
+    match area {
+        ByteArea::I | ByteArea::Q => 64,
+        ByteArea::M => 1024,
+        ByteArea::Db(_) => 0,
     }
 }
 
@@ -61,7 +61,7 @@ fn bit_operand(area: ByteArea, s: &Statement) -> Option<Operand>
     ensures operand { result ≡ bit_operand area s.now }
     ensures placed { IfSome result IsOperand }
 {
-    if s.value >= u32::from(area.size()) {
+    if s.value >= u32::from(size_of(area)) {
         return None;
     }
     Some(Operand::Bit(BitOperand::Area(BitPlace {
@@ -76,7 +76,7 @@ fn value_operand(area: ByteArea, s: &Statement) -> Option<Operand>
     ensures placed { IfSome result IsOperand }
 {
     let width = width_of(s.bit)?;
-    if u64::from(s.value) + u64::from(width.bytes()) > u64::from(area.size()) {
+    if u64::from(s.value) + u64::from(width.bytes()) > u64::from(size_of(area)) {
         return None;
     }
     Some(Operand::Value(ValueOperand::Area(ValuePlace {

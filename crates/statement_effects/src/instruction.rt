@@ -1,21 +1,11 @@
 //! What a statement means: instructions, by groups.
 
 use accumulators::{Move, Num, Shift, Word};
+use cpu_image::ByteArea;
 use instruction_set::{BitWrite, Edge, MasterControl, RloOperation};
 use s7_base::BlockRef;
 use status_word::{Check, Cmp, Jump};
 use timers::TimerKind;
-
-/// An area of bytes that statements address.
-#[derive(Clone, Copy, Debug, PartialEq, Eq)]
-pub enum ByteArea {
-    /// The input image, bytes 0 to 63.
-    I,
-    /// The output image, bytes 0 to 63.
-    Q,
-    /// Bit memory, bytes 0 to 1,023.
-    M,
-}
 
 /// A bit of an area: the byte lies in the area, and the bit is 0 to 7.
 #[derive(Clone, Copy, Debug, PartialEq, Eq)]

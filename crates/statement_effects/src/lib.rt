@@ -19,13 +19,14 @@ mod reading;
 mod resolving;
 mod supported;
 
-pub use areas::{Memory, Registers};
+pub use areas::{DataRegisters, Memory, Registers};
+pub use cpu_image::ByteArea;
 pub use decoded::{Decoded, DecodedBlock};
 pub use instruction::{
-    AccuInstruction, BitInstruction, BitOperand, BitPlace, ByteArea, CounterOperation,
-    DirectInstruction, Flow, GroupInstruction, Instruction, JumpInstruction, LocalBit, LocalValue,
-    MoveInstruction, NumberInstruction, Operand, StatusInstruction, TimedOperation, TimerOperation,
-    ValueOperand, ValuePlace, Width, WordInstruction,
+    AccuInstruction, BitInstruction, BitOperand, BitPlace, CounterOperation, DirectInstruction,
+    Flow, GroupInstruction, Instruction, JumpInstruction, LocalBit, LocalValue, MoveInstruction,
+    NumberInstruction, Operand, StatusInstruction, TimedOperation, TimerOperation, ValueOperand,
+    ValuePlace, Width, WordInstruction,
 };
 pub use laws::supported_statements_mean_instructions;
 pub use level_stack::LevelFault;

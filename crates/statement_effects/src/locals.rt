@@ -7,7 +7,7 @@ use crate::Memory;
 use crate::instruction::{LocalValue, Width};
 
 /// What of a value fits into a width.
-fn low_part(width: Width, value: u32) -> u32
+pub(crate) fn low_part(width: Width, value: u32) -> u32
     ensures part { result ≡ low_part width value }
     ensures fits { result < 2 ^ (8 * bytes_in width) }
 {

@@ -1,72 +1,32 @@
 //! Loads, transfers, and moves between accumulators.
-ghost use Rattle.std.specs.Prelude.{◌≡◌, ◌+◌, ◌*◌, ◌<◌, ◌≤◌, ◌^◌, ◌%◌, length, slice_index, OnOk, OnErr, IfErr, Ok, Err};
-ghost use Rattle.statement_effects.specs.Areas.{value_in, with_value_in, area_value_at, with_area_value_at, value_at, with_value_at, bytes_in, is_off};
-ghost use Rattle.statement_effects.specs.Placed.{IsValuePlaced, IsValueOperand, IsValueThere};
+ghost use Rattle.std.specs.Prelude.{◌≡◌, OnOk, OnErr, IfErr, Ok, Err};
+ghost use Rattle.statement_effects.specs.Areas.{area_value_at, with_area_value_at, value_at, with_value_at, is_off};
+ghost use Rattle.statement_effects.specs.Placed.{IsValueOperand, IsValueThere};
 ghost use Rattle.statement_effects.specs.Resolving.{resolve_value, at_value};
 ghost use Rattle.statement_effects.specs.MoveEffect.{with_loaded, transferred, effect_move, effect_direct, effect_accu};
+ghost use Rattle.statement_effects.specs.declared.instruction.ValueOperand.TheVariants as value_operands;
 
 use crate::Memory;
 use crate::instruction::{
-    AccuInstruction, ByteArea, DirectInstruction, MoveInstruction, ValueOperand, ValuePlace, Width,
+    AccuInstruction, DirectInstruction, MoveInstruction, ValueOperand, ValuePlace,
 };
+use crate::locals::low_part;
 use accumulators::Accus;
+use cpu_image::ImageFault;
 use status_word::StatusWord;
 
-/// The number of two bytes, the high one first.
-fn word_of(high: u8, low: u8) -> u32
-    ensures value { result ≡ high * 256 + low }
-    ensures range { result < 2 ^ 16 }
-{
-    u32::from(high) * 256 + u32::from(low)
-}
-
-/// The value at a place, whose first byte is the highest.
-fn value_in(bytes: &[u8], at: usize, width: Width) -> u32
-    requires { at + bytes_in width ≤ length bytes.now }
-    ensures { result ≡ value_in bytes.now at width }
-{
-    match width {
-        Width::Byte => u32::from(bytes[at]),
-        Width::Word => word_of(bytes[at], bytes[at + 1]),
-        Width::Double => {
-            let high = word_of(bytes[at], bytes[at + 1]);
-            let low = word_of(bytes[at + 2], bytes[at + 3]);
-            high * 65536 + low
-        }
-    }
-}
-
-/// The low 8, 16 or 32 bits of a value are written at a place, the highest byte first.
-fn put_value(bytes: &mut [u8], at: usize, width: Width, value: u32)
-    requires { at + bytes_in width ≤ length bytes.old }
-    ensures { bytes.new ≡ with_value_in bytes.old at width value }
-{
-    let low = (value % 256) as u8;
-    match width {
-        Width::Byte => bytes[at] = low,
-        Width::Word => {
-            bytes[at] = (value / 256 % 256) as u8;
-            bytes[at + 1] = low;
-        }
-        Width::Double => {
-            bytes[at] = (value / 16_777_216 % 256) as u8;
-            bytes[at + 1] = (value / 65536 % 256) as u8;
-            bytes[at + 2] = (value / 256 % 256) as u8;
-            bytes[at + 3] = low;
-        }
-    }
-}
-
 impl Memory {
+    #[tactic(auto, using(crate::proofs::Places::not_missing, crate::proofs::Places::not_past))]
     fn read_area_value(&self, place: ValuePlace) -> u32
-        requires { IsValuePlaced place }
+        requires { IsValueThere self.now (value_operands.Area place) }
         ensures { result ≡ area_value_at self.now place }
     {
-        let at = place.at_byte as usize;
-        match place.area {
-            ByteArea::I => value_in(&self.inputs, at, place.width),
-            ByteArea::Q => value_in(&self.outputs, at, place.width),
-            ByteArea::M => value_in(&self.flags, at, place.width),
+        match self
+            .image
+            .read(place.area, place.at_byte, place.width.bytes())
+        {
+            Ok(value) => value,
+            Err(ImageFault::NoSuchBlock | ImageFault::NoSuchAddress) => unreachable!(),
         }
     }
 
@@ -77,18 +37,23 @@ impl Memory {
         match place {
             ValueOperand::Area(place) => self.read_area_value(place),
             ValueOperand::Local(place) => self.local_value(place),
+            ValueOperand::Data(_) => unreachable!(),
         }
     }
 
+    /// The low 8, 16 or 32 bits of a value are written at a place, the highest byte first.
+    #[tactic(auto, using(crate::proofs::Places::not_missing, crate::proofs::Places::not_past))]
     fn write_area_value(&mut self, place: ValuePlace, value: u32)
-        requires { IsValuePlaced place }
+        requires { IsValueThere self.old (value_operands.Area place) }
         ensures { self.new ≡ with_area_value_at self.old place value }
     {
-        let at = place.at_byte as usize;
-        match place.area {
-            ByteArea::I => put_value(&mut self.inputs, at, place.width, value),
-            ByteArea::Q => put_value(&mut self.outputs, at, place.width, value),
-            ByteArea::M => put_value(&mut self.flags, at, place.width, value),
+        let part = low_part(place.width, value);
+        match self
+            .image
+            .write(place.area, place.at_byte, place.width.bytes(), part)
+        {
+            Ok(()) => {}
+            Err(ImageFault::NoSuchBlock | ImageFault::NoSuchAddress) => unreachable!(),
         }
     }
 
@@ -99,6 +64,7 @@ impl Memory {
         match place {
             ValueOperand::Area(place) => self.write_area_value(place, value),
             ValueOperand::Local(place) => self.put_local_value(place, value),
+            ValueOperand::Data(_) => unreachable!(),
         }
     }
 

@@ -1,11 +1,11 @@
 //! One side of the pair.
-ghost use Rattle.std.specs.Prelude.{◌≡◌, ◌<◌, ◌≤◌, ◌+◌, ◌^◌, ◌∷◌, [], ◌++◌, ◌↔◌, ℕ, false, List, length, slice_get, None, OnOk, OnErr, IfOk, IsTrue};
+ghost use Rattle.std.specs.Prelude.{◌≡◌, ◌<◌, ◌≤◌, ◌+◌, ◌^◌, ◌∷◌, [], ◌++◌, ◌↔◌, ℕ, false, List, length, slice_get, OnOk, OnErr, IfOk, IfSome, IsTrue};
 ghost use Rattle.std.specs.Option.{option_map};
 ghost use Rattle.s7_base.specs.Blocks.{Program};
 ghost use Rattle.mc_machine.specs.Playable.{IsPlayable};
 ghost use Rattle.s7_events.specs.declared.entry.Answer.{Answer};
 ghost use Rattle.s7_events.specs.declared.entry.Request.{Request};
-ghost use Rattle.mc_machine.specs.Stands.{CanAsk, CanTake, IsDated, CanGoOn, IsAsked, IsIdle, WaitsAt, Stands, CpuWaits, CpuStopped, OfRunning, HasSizes, byte_of, counter_of, notes_of};
+ghost use Rattle.mc_machine.specs.Stands.{CanAsk, CanTake, IsDated, CanGoOn, IsAsked, IsIdle, WaitsAt, Stands, CpuWaits, CpuStopped, OfRunning, HasSizes, byte_of, block_length_of, counter_of, notes_of};
 ghost use Rattle.subsystem.specs.Part.{IsNew, IsOpen, first_life, TookOne};
 
 use mc_machine::Machine;
@@ -219,10 +219,12 @@ impl Subsystem {
         self.running().counter_value(n)
     }
 
-    /// The number of bytes of a data block. None is loaded yet.
+    /// The number of bytes of a data block, at most 8,192. None exactly where it is not loaded.
     pub fn block_length(&self, n: u8) -> Option<u16>
         requires { IsOpen self.now }
-        ensures { result ≡ None }
+        ensures length { result ≡ block_length_of self.now.machine n }
+        ensures few { IfSome result (λ length. length ≤ 8192) }
+        ensures sizes { OfRunning self.now.machine (λ running. HasSizes running.config.memory) }
     {
         self.running().block_length(n)
     }

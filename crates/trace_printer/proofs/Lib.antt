@@ -6,3 +6,4 @@ pub mod Lists
 pub mod Notes
 pub mod Numbered
 pub mod Sections
+pub mod TailBlocks

@@ -1,5 +1,5 @@
 -- The tail of a CPU.
-use Rattle.std.specs.Prelude.{ℕ, List, [], map, Option, Some, None}
+use Rattle.std.specs.Prelude.{ℕ, List, map, Option, Some, None}
 use Rattle.s7_events.specs.declared.diagnostics.DiagCode.{DiagCode}
 use Rattle.statement_effects.specs.State.{Memory}
 use Rattle.mc_machine.specs.Places.{Note}
@@ -10,14 +10,14 @@ use Rattle.trace_text.specs.Tail.{Tail, no_tail}
 abbrev pub noted : List Note → List (ℕ × DiagCode)
 noted notes = map (λ note. (note.moment, note.code)) notes
 
--- of the areas and the diagnostic entries that are kept; it has no data blocks yet
+-- of the areas and the diagnostic entries that are kept
 abbrev pub tail_in : Memory → List Note → Tail
 tail_in memory notes = record {
   notes = noted notes;
-  inputs = memory.inputs;
-  outputs = memory.outputs;
-  flags = memory.flags;
-  blocks = [];
+  inputs = memory.image.inputs;
+  outputs = memory.image.outputs;
+  flags = memory.image.bit_memory;
+  blocks = memory.image.data_blocks;
   counters = map (λ counter. counter.value) memory.counters;
 }
 

@@ -30,9 +30,6 @@ returns c =
       inputs = replicate 64 0;
       outputs = replicate 64 0;
       bit_memory = replicate 1024 0;
-      timers = replicate 6144 0;
-      counters = replicate 1024 0;
-      registers = replicate 256 0;
       data_blocks = blocks;
       marks = marks;
     } in
