@@ -140,4 +140,6 @@ effect_begun (groups.Call callee) m = refl
 effect_begun (groups.CallWhenSet callee) m = refl
 effect_begun groups.End m = refl
 effect_begun groups.EndWhenSet m = refl
+effect_begun groups.Retrigger m = refl
+effect_begun groups.Stop m = refl
 effect_begun groups.Nothing m = refl
