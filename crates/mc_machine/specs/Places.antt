@@ -16,6 +16,7 @@ pub data Mode : Type 0 where
   Fresh : Mode
   Ticking : Mode
   Timing : Mode
+  Retriggering : Mode
 
 -- at the start of a cycle, where the CPU asks to put out the output image; where it asks for the input image; at the end
 -- of a cycle; where it asks to stop; where it has stopped; at a statement of a block, counted from 0

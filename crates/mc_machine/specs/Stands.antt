@@ -132,11 +132,11 @@ IsAskedAt place asks.Tick = (block : BlockRef) × (at : ℕ) × (level : Level) 
 IsAskedAt place (asks.ReadP addr width) = ⊥
 IsAskedAt place (asks.WriteP addr width value) = ⊥
 IsAskedAt place asks.Now = (block : BlockRef) × (at : ℕ) × (level : Level) × (mode : Mode) × (place ≡ At block at level mode)
-IsAskedAt place asks.Retrigger = ⊥
+IsAskedAt place asks.Retrigger = (block : BlockRef) × (at : ℕ) × (level : Level) × (mode : Mode) × (place ≡ At block at level mode)
 IsAskedAt place (asks.Reply value) = ⊥
 IsAskedAt place (asks.Stop code) = place ≡ AtStop code
 
--- what is asked so far; direct access, the monitoring time and jobs are not
+-- what is asked so far; direct access and jobs are not
 abbrev pub IsAsked : Ask → Type 0
 IsAsked (asks.Outputs image) = Unit {0}
 IsAsked asks.Inputs = Unit {0}
@@ -145,7 +145,7 @@ IsAsked asks.Tick = Unit {0}
 IsAsked (asks.ReadP addr width) = ⊥
 IsAsked (asks.WriteP addr width value) = ⊥
 IsAsked asks.Now = Unit {0}
-IsAsked asks.Retrigger = ⊥
+IsAsked asks.Retrigger = Unit {0}
 IsAsked (asks.Reply value) = ⊥
 IsAsked (asks.Stop code) = Unit {0}
 

@@ -3,9 +3,9 @@ ghost use Rattle.std.specs.Prelude.{◌≡◌, ◌≢◌, ℕ, ◌+◌, ◌-◌,
 ghost use Rattle.s7_base.specs.Blocks.{Program};
 ghost use Rattle.s7_events.specs.declared.entry.Answer.{Answer};
 ghost use Rattle.s7_base.specs.declared.blocks.BlockRef.{BlockRef};
-ghost use Rattle.mc_machine.specs.Meaning.{error_registers, fails, begun, calls, turn_of, flows, jump_among, cycle_length, cycles_after, answered, takes, stops_cpu, begins_main, lost_note, again_mode, again, resumed, timed_at, Leaves, Waits, std, request_of, stop_request};
+ghost use Rattle.mc_machine.specs.Meaning.{error_registers, fails, begun, calls, turn_of, flows, jump_among, cycle_length, cycles_after, answered, takes, stops_cpu, begins_main, lost_note, again_mode, again, resumed, timed_at, retriggered_at, Leaves, Waits, std, request_of, stop_request};
 ghost use Rattle.mc_machine.specs.Stands.{Running, state_of, newest, with_newest, StandsFor, IsMoved, IsTurned, halts_with, Reacts, Follows, register_head, register_bytes, IsHigh, AreStacked, AreBegun, IsSound, IsValid, IsAskedAt, AsksAt, Keeps, IsTaken, IsDated, IsAsked, GoesOn};
-ghost use Rattle.mc_machine.specs.Places.{AtInputs, Over, At, Fresh};
+ghost use Rattle.mc_machine.specs.Places.{AtInputs, AtStop, Over, At, Fresh};
 ghost use Rattle.mc_machine.specs.EngineView.{level_in, mode_of, place_of, frame_of, config_of, running_of, decoded_codes, gone_to, IsCode, IsIndexed, AreIndexed, AreFound, IsStored};
 ghost use Rattle.s7_events.specs.declared.entry.Ask.{Ask};
 
@@ -133,6 +133,7 @@ fn again_mode(ask: &Ask, mode: Mode) -> Mode
     match ask {
         Ask::Tick => Mode::Ticking,
         Ask::Now => Mode::Timing,
+        Ask::Retrigger => Mode::Retriggering,
         _ => mode,
     }
 }
@@ -324,6 +325,7 @@ impl Engine {
             (Ask::Cycle, Answer::Go) => self.spot = Spot::AtOutputs,
             (Ask::Tick, Answer::Done) => self.resume_block(),
             (Ask::Now, Answer::Now(moment)) => self.time(*moment),
+            (Ask::Retrigger, Answer::Done) => self.retrigger(),
             (Ask::Stop(code), Answer::Done) => self.end(code),
             _ => {}
         }
@@ -392,6 +394,32 @@ impl Engine {
             }
             Err(error) => self.fail_answered(error, spot),
         }
+    }
+
+    /// The statement that asked to start the monitoring of the cycle anew is completed.
+    fn retrigger(&mut self)
+        requires sound { IsSound (config_of self.old) }
+        requires stored { IsStored self.old }
+        requires going { (config_of self.old).place ≢ Over }
+        requires fresh { self.old.since ≡ 0 }
+        ensures retriggered { Reacts (retriggered_at self.old.program self.old.memory (config_of self.old).place) (config_of self.old) self.old.at (config_of self.new) }
+        ensures sound { IsSound (config_of self.new) }
+        ensures stored { IsStored self.new }
+        ensures going { (config_of self.new).place ≢ Over }
+        ensures waits { self.new.waits ≡ self.old.waits }
+    {
+        let Spot::At(spot) = self.spot else {
+            return;
+        };
+        let Some(Instruction::Retrigger) = instruction_in(&self.program, spot) else {
+            return;
+        };
+        let mut after = self.memory.registers();
+        after.status.after_block();
+        self.memory.set_registers(after);
+        let next = spot.at + 1;
+        self.spot = at_statement(spot, next);
+        self.since = 1;
     }
 
     /// The CPU stops.
@@ -492,6 +520,7 @@ impl Engine {
         match spot.mode {
             Mode::Timing => self.wait_at(block_request(Ask::Now, spot.level)),
             Mode::Ticking => self.wait_at(block_request(Ask::Tick, spot.level)),
+            Mode::Retriggering => self.wait_at(block_request(Ask::Retrigger, spot.level)),
             Mode::Fresh => self.run(spot),
         }
     }
@@ -553,9 +582,22 @@ impl Engine {
             Flow::Call(callee) => return self.call(callee, spot),
             Flow::Fail(error) => return self.fail_statement(error, spot),
             Flow::AskNow => return self.wait_at(block_request(Ask::Now, spot.level)),
+            Flow::AskRetrigger => return self.wait_at(block_request(Ask::Retrigger, spot.level)),
+            Flow::Stop => return self.halt(StopCode::Sfc46),
         };
         self.go_to(next);
         self.since += 1;
+    }
+
+    /// The CPU asks to stop.
+    fn halt(&mut self, code: StopCode)
+        ensures halted { config_of self.new ≡ record (config_of self.old) { place = AtStop code } }
+        ensures sound { IsSound (config_of self.old) → IsSound (config_of self.new) }
+        ensures stored { IsStored self.old → IsStored self.new }
+        ensures waits { self.new.waits ≡ Some (stop_request code) }
+    {
+        self.spot = Spot::AtStop(code);
+        self.wait_at(stop_request(code));
     }
 
     /// A statement failed: a diagnostic entry is made, and its error OB begins, or the CPU asks to stop. How many

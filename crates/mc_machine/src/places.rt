@@ -17,6 +17,7 @@ pub enum Mode {
     Fresh,
     Ticking,
     Timing,
+    Retriggering,
 }
 
 /// A place in a block: the block, its index among the code blocks, the statement, counted from 0, and how the block
