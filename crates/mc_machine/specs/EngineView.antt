@@ -54,7 +54,7 @@ config_of engine = record {
   since = engine.since;
   at = engine.at;
   cycles = record { began_at = engine.began_at; last_length = engine.last_length; first_over = engine.first_over };
-  diag = engine.diag.items;
+  diag = engine.diag;
 }
 
 abbrev pub running_of : Engine → Running

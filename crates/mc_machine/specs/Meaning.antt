@@ -15,6 +15,7 @@ use Rattle.s7_events.specs.declared.entry.Answer.TheVariants as answers
 use Rattle.s7_events.specs.declared.diagnostics.DiagCode.{DiagCode}
 use Rattle.s7_events.specs.declared.diagnostics.DiagCode.TheVariants as notes
 use Rattle.s7_base.specs.Blocks.{Code, Program, code_of}
+use Rattle.diag_buffer.specs.declared.note.Note.{Note}
 use Rattle.s7_events.specs.Fitting.{fits}
 use Rattle.s7_events.specs.Priorities.{priority_of}
 use Rattle.s7_events.specs.declared.entry.StopCode.{StopCode}
@@ -25,7 +26,7 @@ use Rattle.level_stack.specs.declared.level.LevelFault.TheVariants.{DepthReached
 use Rattle.statement_effects.specs.State.{Memory}
 use Rattle.statement_effects.specs.Levels.{with_level, entered, without_block}
 use Rattle.statement_effects.specs.declared.areas.Registers.{Registers}
-use Rattle.mc_machine.specs.Places.{Level, Mode, Fresh, Ticking, Timing, Retriggering, Place, AtOutputs, AtInputs, AtCycle, AtStop, Over, At, Kept, Whole, Brackets, Frame, Note}
+use Rattle.mc_machine.specs.Places.{Level, Mode, Fresh, Ticking, Timing, Retriggering, Place, AtOutputs, AtInputs, AtCycle, AtStop, Over, At, Kept, Whole, Brackets, Frame}
 use Rattle.statement_effects.specs.declared.instruction.Instruction.{Instruction}
 use Rattle.statement_effects.specs.declared.instruction.Instruction.TheVariants.{Timed, Retrigger}
 use Rattle.statement_effects.specs.declared.instruction.Flow.{Flow}

@@ -10,9 +10,10 @@ use Rattle.s7_events.specs.declared.diagnostics.Area.{Area}
 use Rattle.s7_events.specs.declared.diagnostics.Area.TheVariants.{I, Q, M, Db, Timers, Counters, Registers}
 use Rattle.s7_base.specs.declared.blocks.BlockRef.{BlockRef}
 use Rattle.s7_base.specs.Blocks.{Program}
+use Rattle.diag_buffer.specs.declared.note.Note.{Note}
 use Rattle.level_stack.specs.Levels.{LevelState}
 use Rattle.statement_effects.specs.State.{Memory}
-use Rattle.mc_machine.specs.Places.{Level, Mode, Place, AtOutputs, AtInputs, AtCycle, AtStop, Over, At, Frame, Note}
+use Rattle.mc_machine.specs.Places.{Level, Mode, Place, AtOutputs, AtInputs, AtCycle, AtStop, Over, At, Frame}
 use Rattle.timers.specs.Bytes as timer_form
 use Rattle.counters.specs.Bytes as counter_form
 use Rattle.statement_effects.specs.Areas.{with_registers}

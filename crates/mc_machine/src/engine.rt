@@ -1,6 +1,7 @@
 //! What a running machine holds: it runs from request to request.
 ghost use Rattle.std.specs.Prelude.{◌≡◌, ◌≢◌, ℕ, ◌+◌, ◌-◌, ◌<◌, ◌≤◌, ◌++◌, ◌∷◌, [], List, length, slice_get, replicate, IsTrue, IfSome, OnSome, ◌^◌, true, false, Option, Some, None, Ok};
 ghost use Rattle.s7_base.specs.Blocks.{Program};
+ghost use Rattle.std.specs.Option.{option_map};
 ghost use Rattle.s7_events.specs.declared.entry.Answer.{Answer};
 ghost use Rattle.s7_base.specs.declared.blocks.BlockRef.{BlockRef};
 ghost use Rattle.mc_machine.specs.Meaning.{error_registers, fails, begun, calls, turn_of, flows, jump_among, cycle_length, cycles_after, answered, takes, stops_cpu, begins_main, lost_note, again_mode, again, resumed, timed_at, retriggered_at, Leaves, Waits, std, request_of, stop_request};
@@ -15,13 +16,11 @@ use crate::levels::{
     call_registers, enter_block, enter_error_ob, enter_main, error_ob, error_registers, ob,
     restored,
 };
-use crate::places::{BlockSpot, Frame, Level, Mode, Note, Returns, Spot};
+use crate::places::{BlockSpot, Frame, Level, Mode, Returns, Spot};
 use arrayvec::ArrayVec;
+use diag_buffer::Diag;
 use s7_base::{Answer, Ask, BlockRef, Blocks, CodeKind, DiagCode, Loss, Request, Side, StopCode};
 use statement_effects::{DecodedBlock, Flow, Instruction, Memory, Registers};
-
-/// How many diagnostic entries are kept.
-const KEPT_NOTES: usize = 120;
 
 /// How many frames there are: that of the cycle, and those of the blocks under the 24th of a level.
 const FRAMES: usize = 24;
@@ -45,7 +44,7 @@ pub struct Engine {
     first_over: bool,
     spot: Spot,
     frames: ArrayVec<Frame, FRAMES>,
-    diag: ArrayVec<Note, KEPT_NOTES>,
+    diag: Diag,
     waits: Option<Request>,
 }
 
@@ -139,19 +138,16 @@ fn again_mode(ask: &Ask, mode: Mode) -> Mode
 }
 
 impl Engine {
-    /// The CPU at the start of its first cycle.
-    pub fn start(program: Blocks, decoded: Vec<DecodedBlock>) -> Engine
+    /// The CPU at the start of its first cycle, with a buffer for its diagnostic entries.
+    pub fn start(program: Blocks, decoded: Vec<DecodedBlock>, mut diag: Diag) -> Engine
         requires decoded { decoded.items ≡ decoded_codes program.codes }
+        requires empty { diag ≡ [] }
         ensures valid { IsValid (running_of result) }
         ensures stored { IsStored result }
         ensures going { (config_of result).place ≢ Over }
         ensures stands { StandsFor program [] (config_of result) }
     {
-        let mut diag = ArrayVec::new();
-        diag.push(Note {
-            moment: 0,
-            code: DiagCode::Start,
-        });
+        diag.note(0, DiagCode::Start);
         let index = CodeIndex::of(program.codes());
         Engine {
             program,
@@ -184,11 +180,18 @@ impl Engine {
         &self.memory
     }
 
-    pub fn notes(&self) -> &[Note]
-        ensures list { result.now ≡ (config_of self.now).diag }
-        ensures few { length result.now ≤ 120 }
+    /// The diagnostic entry k of those kept, the oldest first. None exactly where k is not below their number.
+    pub fn note_at(&self, k: u32) -> Option<(u64, DiagCode)>
+        ensures { result ≡ option_map (λ note. (note.moment, note.code)) (slice_get (config_of self.now).diag k) }
     {
-        self.diag.as_slice()
+        self.diag.get(k)
+    }
+
+    /// How many diagnostic entries are kept.
+    pub fn note_count(&self) -> u32
+        ensures { result ≡ length (config_of self.now).diag }
+    {
+        self.diag.len()
     }
 
     /// The bytes of the registers, but for those that are always 0.
@@ -335,7 +338,7 @@ impl Engine {
     fn repeat(&mut self, ask: &Ask, code: Option<DiagCode>)
         requires sound { IsSound (config_of self.old) }
         requires stored { IsStored self.old }
-        ensures repeated { config_of self.new ≡ record (config_of self.old) { place = again ask.now (config_of self.old).place; diag = with_newest self.old.diag.items self.old.at code } }
+        ensures repeated { config_of self.new ≡ record (config_of self.old) { place = again ask.now (config_of self.old).place; diag = with_newest self.old.diag self.old.at code } }
         ensures sound { IsSound (config_of self.new) }
         ensures stored { IsStored self.new }
         ensures waits { self.new.waits ≡ self.old.waits }
@@ -425,26 +428,20 @@ impl Engine {
     /// The CPU stops.
     fn end(&mut self, code: StopCode)
         ensures stored { IsStored self.old → IsStored self.new }
-        ensures ended { config_of self.new ≡ record (config_of self.old) { place = Over; diag = with_newest self.old.diag.items self.old.at (Some (DiagCode.Stop code)) } }
+        ensures ended { config_of self.new ≡ record (config_of self.old) { place = Over; diag = with_newest self.old.diag self.old.at (Some (DiagCode.Stop code)) } }
         ensures waits { self.new.waits ≡ self.old.waits }
     {
         self.note(DiagCode::Stop(code));
         self.spot = Spot::Over;
     }
 
-    /// Makes a diagnostic entry, and drops the oldest where there is no room.
+    /// Makes a diagnostic entry.
     fn note(&mut self, code: DiagCode)
         ensures stored { IsStored self.old → IsStored self.new }
-        ensures noted { config_of self.new ≡ record (config_of self.old) { diag = with_newest self.old.diag.items self.old.at (Some code) } }
+        ensures noted { config_of self.new ≡ record (config_of self.old) { diag = with_newest self.old.diag self.old.at (Some code) } }
         ensures waits { self.new.waits ≡ self.old.waits }
     {
-        if self.diag.is_full() {
-            self.diag.remove(0);
-        }
-        self.diag.push(Note {
-            moment: self.at,
-            code,
-        });
+        self.diag.note(self.at, code);
     }
 
     /// OB1 begins over the input image.
