@@ -13,7 +13,7 @@ use std::marker::Model;
 pub const KEPT_NOTES: usize = 120;
 
 /// The newest 120 of the entries that were noted, the oldest of these first. `new` alone takes memory.
-#[derive(Drop)]
+#[derive(Debug, Drop)]
 pub struct Diag {
     kept: HeapCircularBuffer<Note>,
 }

@@ -6,8 +6,9 @@ use Rattle.s7_events.specs.declared.entry.Request.{Request}
 use Rattle.s7_events.specs.declared.entry.Answer.{Answer}
 use Rattle.s7_events.specs.declared.diagnostics.DiagCode.{DiagCode}
 use Rattle.s7_base.specs.Blocks.{Program}
+use Rattle.diag_buffer.specs.declared.note.Note.{Note}
 use Rattle.statement_effects.specs.State.{Memory}
-use Rattle.mc_machine.specs.Places.{AtOutputs, AtStop, Over, Frame, Note}
+use Rattle.mc_machine.specs.Places.{AtOutputs, AtStop, Over, Frame}
 use Rattle.mc_machine.specs.Meaning.{State, Waits, Stopped, Undefined, Rest, Move, Goes, Calls, Reaction, Again, Completes, Turn, Asks, Moves, Halts, Leaves, Ends, with_note, stop_request, at_block_end, resume, moves, reacts, cycles_after, took, does, body, turn_of, takes, is_dated, takes_at, answered, never, start, start_notes, start_cycles, std}
 use Rattle.statement_effects.specs.Areas.{start_memory}
 use Rattle.mc_machine.specs.Stands.{Config, newest, with_newest, state_of, rest_of, todo, StandsFor, IsMoved, Reacts, Follows, AsksAt, Keeps, turns_left}

@@ -1,5 +1,5 @@
 -- Where a request is asked, and what follows a statement.
-use Rattle.std.proofs.Common.{◌≡◌, ℕ, suc, ◌+◌, ◌<◌, ◌≤◌, List, [], ◌∷◌, ◌++◌, length, Option, Some, None, Result, Ok, Err, refl, sym, ap, ◌∙◌, subst, arith, add-zero, zero-add, length-append}
+use Rattle.std.proofs.Common.{◌≡◌, ℕ, suc, true, ◌+◌, ◌<◌, ◌≤◌, List, [], ◌∷◌, ◌++◌, length, Option, Some, None, Result, Ok, Err, refl, sym, ap, ◌∙◌, subst, arith, add-zero, zero-add, length-append}
 use Rattle.std.specs.Prelude.{slice_get, nat_lt, if◌then◌else◌}
 use Rattle.std.proofs.lemmas.Bool.{cond_both, lt-ltb, le-ltb}
 use Rattle.s7_base.specs.declared.statement.Statement.{Statement}
@@ -10,10 +10,10 @@ use Rattle.s7_events.specs.declared.entry.Request.{Request}
 use Rattle.s7_events.specs.declared.entry.StopCode.{StopCode}
 use Rattle.s7_base.specs.Blocks.{Code, Program, code_of}
 use Rattle.statement_effects.specs.State.{Memory}
-use Rattle.mc_machine.specs.Places.{Level, Mode, Fresh, Ticking, Timing, Place, AtOutputs, AtInputs, AtCycle, AtStop, Over, At, Frame}
+use Rattle.mc_machine.specs.Places.{Level, Mode, Fresh, Ticking, Timing, Retriggering, Place, AtOutputs, AtInputs, AtCycle, AtStop, Over, At, Frame}
 use Rattle.statement_effects.specs.declared.instruction.Flow.{Flow}
 use Rattle.statement_effects.specs.declared.instruction.Flow.TheVariants as flow
-use Rattle.statement_effects.specs.Effect.{effect_of, effect_if}
+use Rattle.statement_effects.specs.Effect.{effect_of, effect_if, asks_first}
 use Rattle.statement_effects.specs.Reading.{instruction_of}
 use Rattle.statement_effects.specs.declared.instruction.Instruction.{Instruction}
 use Rattle.std.specs.Option.{option_map}
@@ -47,6 +47,9 @@ asked_flow program block at level memory r (flow.Fail error) e =
     absurd (asked_failed (At block (at + 1) level Fresh) level memory error r (error_entered program level memory error) e)
 asked_flow program block at level memory r flow.AskNow e =
     let q : request_of asks.Now level.priority ≡ r = cc in subst (λ (r : Request). IsAskedAt (At block at level Fresh) r.ask) q (block, at, level, Fresh, refl)
+asked_flow program block at level memory r flow.AskRetrigger e =
+    let q : request_of asks.Retrigger level.priority ≡ r = cc in subst (λ (r : Request). IsAskedAt (At block at level Fresh) r.ask) q (block, at, level, Fresh, refl)
+asked_flow program block at level memory r flow.Stop e = absurd cc
 
 asked_run : (program : Program) (block : BlockRef) (at : ℕ) (level : Level) (since : ℕ) (memory : Memory) (r : Request) (o : Option Statement) → runs program block at level since memory o ≡ Asks r → IsAskedAt (At block at level Fresh) r.ask
 asked_run program block at level since memory r None e = absurd cc
@@ -67,6 +70,8 @@ asked_at program since memory (At block at level Ticking) r e =
     let q : request_of asks.Tick level.priority ≡ r = cc in subst (λ (r : Request). IsAskedAt (At block at level Ticking) r.ask) q (block, at, level, Ticking, refl)
 asked_at program since memory (At block at level Timing) r e =
     let q : request_of asks.Now level.priority ≡ r = cc in subst (λ (r : Request). IsAskedAt (At block at level Timing) r.ask) q (block, at, level, Timing, refl)
+asked_at program since memory (At block at level Retriggering) r e =
+    let q : request_of asks.Retrigger level.priority ≡ r = cc in subst (λ (r : Request). IsAskedAt (At block at level Retriggering) r.ask) q (block, at, level, Retriggering, refl)
 
 pub is_asked : (p : Place) (ask : Ask) → IsAskedAt p ask → IsAsked ask
 is_asked p (asks.Outputs image) h = tt
@@ -77,7 +82,7 @@ is_asked p asks.Now h = tt
 is_asked p (asks.Stop code) h = tt
 is_asked p (asks.ReadP addr width) h = absurd h
 is_asked p (asks.WriteP addr width value) h = absurd h
-is_asked p asks.Retrigger h = absurd h
+is_asked p asks.Retrigger h = tt
 is_asked p (asks.Reply value) h = absurd h
 
 -- what a place asks is one of those
@@ -201,7 +206,7 @@ changed_called program c c' next level memory callee o None f = changed_failed c
 changed_called program c c' next level memory callee o (Some code) f = changed_begun c c' next level memory callee o (block_entered memory callee code) f
 
 -- what follows the changed memory follows the place
-changed : (program : Program) (c c' : Config) (block : BlockRef) (at : ℕ) (level : Level) (memory : Memory) (o : Option Request) (to : Flow) → (to ≡ flow.AskNow → memory ≡ c.memory) → Follows (flows program block at level memory to) (record c { memory = memory }) o c' → Follows (flows program block at level memory to) c o c'
+changed : (program : Program) (c c' : Config) (block : BlockRef) (at : ℕ) (level : Level) (memory : Memory) (o : Option Request) (to : Flow) → (asks_first to ≡ true → memory ≡ c.memory) → Follows (flows program block at level memory to) (record c { memory = memory }) o c' → Follows (flows program block at level memory to) c o c'
 changed program c c' block at level memory o flow.Next u f = f
 changed program c c' block at level memory o (flow.Jump target) u f = f
 changed program c c' block at level memory o (flow.Among number target) u f = f
@@ -213,8 +218,10 @@ changed program c c' block at level memory o flow.End u f = f
 changed program c c' block at level memory o (flow.Fail error) u f =
     changed_failed c c' (At block (at + 1) level Fresh) level memory error o (error_entered program level memory error) f
 changed program c c' block at level memory o flow.AskNow u f = (f.0, f.1 ∙ ap (λ m. record c { memory = m }) (u refl))
+changed program c c' block at level memory o flow.AskRetrigger u f = (f.0, f.1 ∙ ap (λ m. record c { memory = m }) (u refl))
+changed program c c' block at level memory o flow.Stop u f = f
 
-pub run_follows : (c c' : Config) (block : BlockRef) (at : ℕ) (level : Level) (decoded : Option Instruction) (memory : Memory) (to : Flow) (o : Option Request) → c.place ≡ At block at level Fresh → option_map instruction_of (slice_get (statements_of c.program block) at) ≡ Some decoded → c.since < 256 → effect_if decoded c.memory ≡ (memory, to) → (to ≡ flow.AskNow → memory ≡ c.memory) → Follows (flows c.program block at level memory to) (record c { memory = memory }) o c' → Follows (turn_of c.program c.since c.memory c.place) c o c'
+pub run_follows : (c c' : Config) (block : BlockRef) (at : ℕ) (level : Level) (decoded : Option Instruction) (memory : Memory) (to : Flow) (o : Option Request) → c.place ≡ At block at level Fresh → option_map instruction_of (slice_get (statements_of c.program block) at) ≡ Some decoded → c.since < 256 → effect_if decoded c.memory ≡ (memory, to) → (asks_first to ≡ true → memory ≡ c.memory) → Follows (flows c.program block at level memory to) (record c { memory = memory }) o c' → Follows (turn_of c.program c.since c.memory c.place) c o c'
 run_follows c c' block at level decoded memory to o p s lt e u f =
     subst (λ t. Follows t c o c') (sym (acts c block at level decoded memory to p s lt e)) (changed c.program c c' block at level memory o to u f)
 

@@ -18,7 +18,7 @@ use Rattle.statement_effects.specs.declared.areas.Registers.{Registers}
 use Rattle.mc_machine.specs.declared.places.Returns.{Returns}
 use Rattle.mc_machine.specs.declared.places.Returns.TheVariants as returns
 use Rattle.mc_machine.specs.declared.places.Frame.{Frame as StoredFrame}
-use Rattle.mc_machine.specs.Places.{Level, Mode, Fresh, Ticking, Timing, Place, AtOutputs, AtInputs, AtCycle, AtStop, Over, At, Kept, Whole, Brackets, Frame}
+use Rattle.mc_machine.specs.Places.{Level, Mode, Fresh, Ticking, Timing, Retriggering, Place, AtOutputs, AtInputs, AtCycle, AtStop, Over, At, Kept, Whole, Brackets, Frame}
 use Rattle.mc_machine.specs.Stands.{Config, Running}
 
 abbrev pub level_in : StoredLevel → Level
@@ -28,6 +28,7 @@ abbrev pub mode_of : StoredMode → Mode
 mode_of modes.Fresh = Fresh
 mode_of modes.Ticking = Ticking
 mode_of modes.Timing = Timing
+mode_of modes.Retriggering = Retriggering
 
 abbrev pub place_of : Spot → Place
 place_of spots.AtOutputs = AtOutputs
@@ -53,7 +54,7 @@ config_of engine = record {
   since = engine.since;
   at = engine.at;
   cycles = record { began_at = engine.began_at; last_length = engine.last_length; first_over = engine.first_over };
-  diag = engine.diag.items;
+  diag = engine.diag;
 }
 
 abbrev pub running_of : Engine → Running

@@ -15,6 +15,7 @@ use Rattle.s7_events.specs.declared.entry.Answer.TheVariants as answers
 use Rattle.s7_events.specs.declared.diagnostics.DiagCode.{DiagCode}
 use Rattle.s7_events.specs.declared.diagnostics.DiagCode.TheVariants as notes
 use Rattle.s7_base.specs.Blocks.{Code, Program, code_of}
+use Rattle.diag_buffer.specs.declared.note.Note.{Note}
 use Rattle.s7_events.specs.Fitting.{fits}
 use Rattle.s7_events.specs.Priorities.{priority_of}
 use Rattle.s7_events.specs.declared.entry.StopCode.{StopCode}
@@ -26,9 +27,9 @@ use Rattle.cpu_image.specs.Pages as image_pages
 use Rattle.statement_effects.specs.State.{Memory}
 use Rattle.statement_effects.specs.Levels.{with_level, entered, without_block}
 use Rattle.statement_effects.specs.declared.areas.Registers.{Registers}
-use Rattle.mc_machine.specs.Places.{Level, Mode, Fresh, Ticking, Timing, Place, AtOutputs, AtInputs, AtCycle, AtStop, Over, At, Kept, Whole, Brackets, Frame, Note}
+use Rattle.mc_machine.specs.Places.{Level, Mode, Fresh, Ticking, Timing, Retriggering, Place, AtOutputs, AtInputs, AtCycle, AtStop, Over, At, Kept, Whole, Brackets, Frame}
 use Rattle.statement_effects.specs.declared.instruction.Instruction.{Instruction}
-use Rattle.statement_effects.specs.declared.instruction.Instruction.TheVariants.{Timed}
+use Rattle.statement_effects.specs.declared.instruction.Instruction.TheVariants.{Timed, Retrigger}
 use Rattle.statement_effects.specs.declared.instruction.Flow.{Flow}
 use Rattle.statement_effects.specs.declared.instruction.Flow.TheVariants as flow
 use Rattle.statement_effects.specs.Areas.{clear_registers, with_registers, with_status, start_memory}
@@ -205,6 +206,8 @@ flows program block at level memory (flow.CallInstance callee number) = calls pr
 flows program block at level memory flow.End = Moves None (Goes memory (At block (length (statements_of program block)) level Fresh))
 flows program block at level memory (flow.Fail error) = fails program (At block (at + 1) level Fresh) level memory error
 flows program block at level memory flow.AskNow = Asks (request_of asks.Now level.priority)
+flows program block at level memory flow.AskRetrigger = Asks (request_of asks.Retrigger level.priority)
+flows program block at level memory flow.Stop = Halts None memory stops.Sfc46
 
 -- the statement at a place, unless 256 statements were completed since the last answer; behind the last the block ends
 abbrev pub runs : Program → BlockRef → ℕ → Level → ℕ → Memory → Option Statement → Turn
@@ -224,6 +227,7 @@ turn_of program since memory Over = Ends
 turn_of program since memory (At block at level Fresh) = runs program block at level since memory (slice_get (statements_of program block) at)
 turn_of program since memory (At block at level Ticking) = Asks (request_of asks.Tick level.priority)
 turn_of program since memory (At block at level Timing) = Asks (request_of asks.Now level.priority)
+turn_of program since memory (At block at level Retriggering) = Asks (request_of asks.Retrigger level.priority)
 
 -- the answers --
 
@@ -238,6 +242,7 @@ lost_note side Suspect = notes.LostSuspect side
 abbrev pub again_mode : Ask → Mode → Mode
 again_mode asks.Tick mode = Ticking
 again_mode asks.Now mode = Timing
+again_mode asks.Retrigger mode = Retriggering
 again_mode _ mode = mode
 
 -- a request that is not ended is made again as it is
@@ -309,6 +314,21 @@ timed_at program memory AtCycle moment = Again None (Goes memory AtCycle)
 timed_at program memory (AtStop code) moment = Again None (Goes memory (AtStop code))
 timed_at program memory Over moment = Again None (Goes memory Over)
 
+-- the statement that asked to start the monitoring of the cycle anew is completed, with the status row of a call
+abbrev pub retriggered_by : BlockRef → ℕ → Level → Mode → Memory → Option Instruction → Reaction
+retriggered_by block at level mode memory (Some Retrigger) =
+    Completes (Moves None (Goes (with_status memory (effect_end memory.registers.status)) (At block (at + 1) level Fresh)))
+retriggered_by block at level mode memory _ = Again None (Goes memory (At block at level mode))
+
+-- the monitoring of the cycle was started anew
+abbrev pub retriggered_at : Program → Memory → Place → Reaction
+retriggered_at program memory (At block at level mode) = retriggered_by block at level mode memory (instruction_at program block at)
+retriggered_at program memory AtOutputs = Again None (Goes memory AtOutputs)
+retriggered_at program memory AtInputs = Again None (Goes memory AtInputs)
+retriggered_at program memory AtCycle = Again None (Goes memory AtCycle)
+retriggered_at program memory (AtStop code) = Again None (Goes memory (AtStop code))
+retriggered_at program memory Over = Again None (Goes memory Over)
+
 -- alarms and jobs are not answered yet
 abbrev pub is_built : Answer → Bool
 is_built (answers.Alarm ob info) = false
@@ -345,6 +365,7 @@ answered program memory place asks.Inputs (answers.Image image) = Again None (be
 answered program memory place asks.Cycle answers.Go = Again None (Goes memory AtOutputs)
 answered program memory place asks.Tick answers.Done = Again None (Goes memory (resumed place))
 answered program memory place asks.Now (answers.Now moment) = timed_at program memory place moment
+answered program memory place asks.Retrigger answers.Done = retriggered_at program memory place
 answered program memory place (asks.Stop code) answers.Done = Again (Some (notes.Stop code)) (Goes memory Over)
 answered program memory place _ _ = Again None (Goes memory place)
 

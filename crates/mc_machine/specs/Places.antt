@@ -2,7 +2,6 @@
 use Rattle.std.specs.Prelude.{ℕ, Bool}
 use Rattle.s7_base.specs.declared.blocks.BlockRef.{BlockRef}
 use Rattle.s7_events.specs.declared.entry.StopCode.{StopCode}
-use Rattle.s7_events.specs.declared.diagnostics.DiagCode.{DiagCode}
 use Rattle.bit_unit.specs.State.{BitState}
 use Rattle.statement_effects.specs.declared.areas.Registers.{Registers}
 
@@ -16,6 +15,7 @@ pub data Mode : Type 0 where
   Fresh : Mode
   Ticking : Mode
   Timing : Mode
+  Retriggering : Mode
 
 -- at the start of a cycle, where the CPU asks to put out the output image; where it asks for the input image; at the end
 -- of a cycle; where it asks to stop; where it has stopped; at a statement of a block, counted from 0
@@ -37,8 +37,3 @@ pub data Kept : Type 0 where
 pub record Frame : Type 0 where
   pub place : Place
   pub kept : Kept
-
--- a diagnostic entry, with its moment in milliseconds
-pub record Note : Type 0 where
-  pub moment : ℕ
-  pub code : DiagCode

@@ -10,12 +10,13 @@ use Rattle.s7_events.specs.declared.diagnostics.Area.{Area}
 use Rattle.s7_events.specs.declared.diagnostics.Area.TheVariants.{I, Q, M, Db, Timers, Counters, Registers}
 use Rattle.s7_base.specs.declared.blocks.BlockRef.{BlockRef}
 use Rattle.s7_base.specs.Blocks.{Program}
+use Rattle.diag_buffer.specs.declared.note.Note.{Note}
 use Rattle.level_stack.specs.Levels.{LevelState}
 use Rattle.cpu_image.specs.declared.area.ByteArea.TheVariants as byte_areas
 use Rattle.cpu_image.specs.Image as image
 use Rattle.cpu_image.specs.Pages as image_pages
 use Rattle.statement_effects.specs.State.{Memory}
-use Rattle.mc_machine.specs.Places.{Level, Mode, Place, AtOutputs, AtInputs, AtCycle, AtStop, Over, At, Frame, Note}
+use Rattle.mc_machine.specs.Places.{Level, Mode, Place, AtOutputs, AtInputs, AtCycle, AtStop, Over, At, Frame}
 use Rattle.timers.specs.Bytes as timer_form
 use Rattle.counters.specs.Bytes as counter_form
 use Rattle.statement_effects.specs.Areas.{with_registers, data_length}
@@ -135,11 +136,11 @@ IsAskedAt place asks.Tick = (block : BlockRef) × (at : ℕ) × (level : Level) 
 IsAskedAt place (asks.ReadP addr width) = ⊥
 IsAskedAt place (asks.WriteP addr width value) = ⊥
 IsAskedAt place asks.Now = (block : BlockRef) × (at : ℕ) × (level : Level) × (mode : Mode) × (place ≡ At block at level mode)
-IsAskedAt place asks.Retrigger = ⊥
+IsAskedAt place asks.Retrigger = (block : BlockRef) × (at : ℕ) × (level : Level) × (mode : Mode) × (place ≡ At block at level mode)
 IsAskedAt place (asks.Reply value) = ⊥
 IsAskedAt place (asks.Stop code) = place ≡ AtStop code
 
--- what is asked so far; direct access, the monitoring time and jobs are not
+-- what is asked so far; direct access and jobs are not
 abbrev pub IsAsked : Ask → Type 0
 IsAsked (asks.Outputs image) = Unit {0}
 IsAsked asks.Inputs = Unit {0}
@@ -148,7 +149,7 @@ IsAsked asks.Tick = Unit {0}
 IsAsked (asks.ReadP addr width) = ⊥
 IsAsked (asks.WriteP addr width value) = ⊥
 IsAsked asks.Now = Unit {0}
-IsAsked asks.Retrigger = ⊥
+IsAsked asks.Retrigger = Unit {0}
 IsAsked (asks.Reply value) = ⊥
 IsAsked (asks.Stop code) = Unit {0}
 

@@ -10,6 +10,7 @@ ghost use Rattle.mc_machine.specs.Stands.{IsIdle, IsRunning, CanAsk, CanTake, Is
 
 use crate::codes::decoded_codes;
 use crate::engine::Engine;
+use diag_buffer::Diag;
 use s7_base::{Answer, Area, Blocks, DiagCode, NoMemory, Request};
 use statement_effects::{ByteArea, Memory};
 use std::alloc::Global;
@@ -54,7 +55,8 @@ impl Machine {
         let program = blocks.copy(alloc)?;
         let decoded = decoded_codes(alloc, program.codes())?;
         let memory = Memory::start(alloc, &program)?;
-        self.engine = Some(Engine::start(program, decoded, memory));
+        let diag = Diag::new(alloc)?;
+        self.engine = Some(Engine::start(program, decoded, memory, diag));
         Ok(())
     }
 
@@ -123,10 +125,7 @@ impl Machine {
         ensures { result ≡ option_map (λ note. (note.moment, note.code)) (slice_get (notes_of self.now) k) }
     {
         match &self.engine {
-            Some(engine) => {
-                let note = engine.notes().get(k as usize)?;
-                Some((note.moment, note.code))
-            }
+            Some(engine) => engine.note_at(k),
             None => None,
         }
     }
@@ -137,7 +136,7 @@ impl Machine {
         ensures { result ≡ length (notes_of self.now) }
     {
         match &self.engine {
-            Some(engine) => engine.notes().len() as u32,
+            Some(engine) => engine.note_count(),
             None => 0,
         }
     }

@@ -1,12 +1,13 @@
 //! What a running machine holds: it runs from request to request.
 ghost use Rattle.std.specs.Prelude.{◌≡◌, ◌≢◌, ℕ, ◌+◌, ◌-◌, ◌<◌, ◌≤◌, ◌++◌, ◌∷◌, [], List, length, slice_get, replicate, IsTrue, IfSome, OnSome, ◌^◌, true, false, Option, Some, None, Ok};
 ghost use Rattle.s7_base.specs.Blocks.{Program};
+ghost use Rattle.std.specs.Option.{option_map};
 ghost use Rattle.s7_events.specs.declared.entry.Answer.{Answer};
 ghost use Rattle.s7_base.specs.declared.blocks.BlockRef.{BlockRef};
 ghost use Rattle.statement_effects.specs.Areas.{start_memory};
-ghost use Rattle.mc_machine.specs.Meaning.{error_registers, fails, begun, calls, turn_of, flows, jump_among, cycle_length, cycles_after, answered, takes, stops_cpu, begins_main, lost_note, again_mode, again, resumed, timed_at, Leaves, Waits, std, request_of, stop_request};
+ghost use Rattle.mc_machine.specs.Meaning.{error_registers, fails, begun, calls, turn_of, flows, jump_among, cycle_length, cycles_after, answered, takes, stops_cpu, begins_main, lost_note, again_mode, again, resumed, timed_at, retriggered_at, Leaves, Waits, std, request_of, stop_request};
 ghost use Rattle.mc_machine.specs.Stands.{Running, state_of, newest, with_newest, StandsFor, IsMoved, IsTurned, halts_with, Reacts, Follows, register_head, register_bytes, IsHigh, AreStacked, AreBegun, IsSound, IsValid, IsAskedAt, AsksAt, Keeps, IsTaken, IsDated, IsAsked, GoesOn};
-ghost use Rattle.mc_machine.specs.Places.{AtInputs, Over, At, Fresh};
+ghost use Rattle.mc_machine.specs.Places.{AtInputs, AtStop, Over, At, Fresh};
 ghost use Rattle.mc_machine.specs.EngineView.{level_in, mode_of, place_of, frame_of, config_of, running_of, decoded_codes, gone_to, IsCode, IsIndexed, AreIndexed, AreFound, IsStored};
 ghost use Rattle.s7_events.specs.declared.entry.Ask.{Ask};
 
@@ -16,13 +17,11 @@ use crate::levels::{
     call_registers, enter_block, enter_error_ob, enter_main, error_ob, error_registers, ob,
     restored,
 };
-use crate::places::{BlockSpot, Frame, Level, Mode, Note, Returns, Spot};
+use crate::places::{BlockSpot, Frame, Level, Mode, Returns, Spot};
 use arrayvec::ArrayVec;
+use diag_buffer::Diag;
 use s7_base::{Answer, Ask, BlockRef, Blocks, CodeKind, DiagCode, Loss, Request, Side, StopCode};
 use statement_effects::{DecodedBlock, Flow, Instruction, Memory, Registers};
-
-/// How many diagnostic entries are kept.
-const KEPT_NOTES: usize = 120;
 
 /// How many frames there are: that of the cycle, and those of the blocks under the 24th of a level.
 const FRAMES: usize = 24;
@@ -46,7 +45,7 @@ pub struct Engine {
     first_over: bool,
     spot: Spot,
     frames: ArrayVec<Frame, FRAMES>,
-    diag: ArrayVec<Note, KEPT_NOTES>,
+    diag: Diag,
     waits: Option<Request>,
 }
 
@@ -134,26 +133,24 @@ fn again_mode(ask: &Ask, mode: Mode) -> Mode
     match ask {
         Ask::Tick => Mode::Ticking,
         Ask::Now => Mode::Timing,
+        Ask::Retrigger => Mode::Retriggering,
         _ => mode,
     }
 }
 
 impl Engine {
-    /// The CPU at the start of its first cycle.
+    /// The CPU at the start of its first cycle, with a buffer for its diagnostic entries.
     #[tactic(auto, using(crate::proofs::Keeps::stands_start))]
-    pub fn start(program: Blocks, decoded: Vec<DecodedBlock>, memory: Memory) -> Engine
+    pub fn start(program: Blocks, decoded: Vec<DecodedBlock>, memory: Memory, mut diag: Diag) -> Engine
         requires decoded { decoded.items ≡ decoded_codes program.codes }
         requires memory { memory ≡ start_memory program }
+        requires empty { diag ≡ [] }
         ensures valid { IsValid (running_of result) }
         ensures stored { IsStored result }
         ensures going { (config_of result).place ≢ Over }
         ensures stands { StandsFor program [] (config_of result) }
     {
-        let mut diag = ArrayVec::new();
-        diag.push(Note {
-            moment: 0,
-            code: DiagCode::Start,
-        });
+        diag.note(0, DiagCode::Start);
         let index = CodeIndex::of(program.codes());
         Engine {
             program,
@@ -186,11 +183,18 @@ impl Engine {
         &self.memory
     }
 
-    pub fn notes(&self) -> &[Note]
-        ensures list { result.now ≡ (config_of self.now).diag }
-        ensures few { length result.now ≤ 120 }
+    /// The diagnostic entry k of those kept, the oldest first. None exactly where k is not below their number.
+    pub fn note_at(&self, k: u32) -> Option<(u64, DiagCode)>
+        ensures { result ≡ option_map (λ note. (note.moment, note.code)) (slice_get (config_of self.now).diag k) }
     {
-        self.diag.as_slice()
+        self.diag.get(k)
+    }
+
+    /// How many diagnostic entries are kept.
+    pub fn note_count(&self) -> u32
+        ensures { result ≡ length (config_of self.now).diag }
+    {
+        self.diag.len()
     }
 
     /// The bytes of the registers, but for those that are always 0.
@@ -327,6 +331,7 @@ impl Engine {
             (Ask::Cycle, Answer::Go) => self.spot = Spot::AtOutputs,
             (Ask::Tick, Answer::Done) => self.resume_block(),
             (Ask::Now, Answer::Now(moment)) => self.time(*moment),
+            (Ask::Retrigger, Answer::Done) => self.retrigger(),
             (Ask::Stop(code), Answer::Done) => self.end(code),
             _ => {}
         }
@@ -336,7 +341,7 @@ impl Engine {
     fn repeat(&mut self, ask: &Ask, code: Option<DiagCode>)
         requires sound { IsSound (config_of self.old) }
         requires stored { IsStored self.old }
-        ensures repeated { config_of self.new ≡ record (config_of self.old) { place = again ask.now (config_of self.old).place; diag = with_newest self.old.diag.items self.old.at code } }
+        ensures repeated { config_of self.new ≡ record (config_of self.old) { place = again ask.now (config_of self.old).place; diag = with_newest self.old.diag self.old.at code } }
         ensures sound { IsSound (config_of self.new) }
         ensures stored { IsStored self.new }
         ensures waits { self.new.waits ≡ self.old.waits }
@@ -397,29 +402,49 @@ impl Engine {
         }
     }
 
+    /// The statement that asked to start the monitoring of the cycle anew is completed.
+    fn retrigger(&mut self)
+        requires sound { IsSound (config_of self.old) }
+        requires stored { IsStored self.old }
+        requires going { (config_of self.old).place ≢ Over }
+        requires fresh { self.old.since ≡ 0 }
+        ensures retriggered { Reacts (retriggered_at self.old.program self.old.memory (config_of self.old).place) (config_of self.old) self.old.at (config_of self.new) }
+        ensures sound { IsSound (config_of self.new) }
+        ensures stored { IsStored self.new }
+        ensures going { (config_of self.new).place ≢ Over }
+        ensures waits { self.new.waits ≡ self.old.waits }
+    {
+        let Spot::At(spot) = self.spot else {
+            return;
+        };
+        let Some(Instruction::Retrigger) = instruction_in(&self.program, spot) else {
+            return;
+        };
+        let mut after = self.memory.registers();
+        after.status.after_block();
+        self.memory.set_registers(after);
+        let next = spot.at + 1;
+        self.spot = at_statement(spot, next);
+        self.since = 1;
+    }
+
     /// The CPU stops.
     fn end(&mut self, code: StopCode)
         ensures stored { IsStored self.old → IsStored self.new }
-        ensures ended { config_of self.new ≡ record (config_of self.old) { place = Over; diag = with_newest self.old.diag.items self.old.at (Some (DiagCode.Stop code)) } }
+        ensures ended { config_of self.new ≡ record (config_of self.old) { place = Over; diag = with_newest self.old.diag self.old.at (Some (DiagCode.Stop code)) } }
         ensures waits { self.new.waits ≡ self.old.waits }
     {
         self.note(DiagCode::Stop(code));
         self.spot = Spot::Over;
     }
 
-    /// Makes a diagnostic entry, and drops the oldest where there is no room.
+    /// Makes a diagnostic entry.
     fn note(&mut self, code: DiagCode)
         ensures stored { IsStored self.old → IsStored self.new }
-        ensures noted { config_of self.new ≡ record (config_of self.old) { diag = with_newest self.old.diag.items self.old.at (Some code) } }
+        ensures noted { config_of self.new ≡ record (config_of self.old) { diag = with_newest self.old.diag self.old.at (Some code) } }
         ensures waits { self.new.waits ≡ self.old.waits }
     {
-        if self.diag.is_full() {
-            self.diag.remove(0);
-        }
-        self.diag.push(Note {
-            moment: self.at,
-            code,
-        });
+        self.diag.note(self.at, code);
     }
 
     /// OB1 begins over the input image.
@@ -495,6 +520,7 @@ impl Engine {
         match spot.mode {
             Mode::Timing => self.wait_at(block_request(Ask::Now, spot.level)),
             Mode::Ticking => self.wait_at(block_request(Ask::Tick, spot.level)),
+            Mode::Retriggering => self.wait_at(block_request(Ask::Retrigger, spot.level)),
             Mode::Fresh => self.run(spot),
         }
     }
@@ -558,9 +584,22 @@ impl Engine {
             }
             Flow::Fail(error) => return self.fail_statement(error, spot),
             Flow::AskNow => return self.wait_at(block_request(Ask::Now, spot.level)),
+            Flow::AskRetrigger => return self.wait_at(block_request(Ask::Retrigger, spot.level)),
+            Flow::Stop => return self.halt(StopCode::Sfc46),
         };
         self.go_to(next);
         self.since += 1;
+    }
+
+    /// The CPU asks to stop.
+    fn halt(&mut self, code: StopCode)
+        ensures halted { config_of self.new ≡ record (config_of self.old) { place = AtStop code } }
+        ensures sound { IsSound (config_of self.old) → IsSound (config_of self.new) }
+        ensures stored { IsStored self.old → IsStored self.new }
+        ensures waits { self.new.waits ≡ Some (stop_request code) }
+    {
+        self.spot = Spot::AtStop(code);
+        self.wait_at(stop_request(code));
     }
 
     /// A statement failed: a diagnostic entry is made, and its error OB begins, or the CPU asks to stop. How many

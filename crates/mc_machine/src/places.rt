@@ -1,8 +1,7 @@
 //! Where a machine stands, as it is stored.
 
-use s7_base::{BlockRef, DiagCode, StopCode};
+use s7_base::{BlockRef, StopCode};
 use statement_effects::Registers;
-use std::marker::Model;
 
 /// The level that a block runs on: its priority, and whether one of the blocks that have begun on it is an error OB.
 #[derive(Clone, Copy, Debug)]
@@ -17,6 +16,7 @@ pub enum Mode {
     Fresh,
     Ticking,
     Timing,
+    Retriggering,
 }
 
 /// A place in a block: the block, its index among the code blocks, the statement, counted from 0, and how the block
@@ -64,21 +64,4 @@ pub struct Frame {
     pub spot: Spot,
     pub kept: Registers,
     pub returns: Returns,
-}
-
-/// A diagnostic entry, with its moment in milliseconds.
-#[derive(Clone, Copy, Debug, Default)]
-pub struct Note {
-    pub moment: u64,
-    pub code: DiagCode,
-}
-
-impl Model for Note {
-    ghost use Rattle.mc_machine.specs.Places.{Note};
-
-    ghost Value = { Note };
-
-    ghost view = { λ n. record { moment = n.moment; code = n.code } };
-
-    ghost inverse = { λ n. record { moment = n.moment; code = n.code } };
 }

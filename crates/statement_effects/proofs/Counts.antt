@@ -168,4 +168,6 @@ effect_begun (groups.CallInstance callee number) m = refl
 effect_begun (groups.CallWhenSet callee) m = refl
 effect_begun groups.End m = refl
 effect_begun groups.EndWhenSet m = refl
+effect_begun groups.Retrigger m = refl
+effect_begun groups.Stop m = refl
 effect_begun groups.Nothing m = refl

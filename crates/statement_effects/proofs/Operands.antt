@@ -233,6 +233,7 @@ takes_all kinds.Timer op = takes op (operands.Timer 0)
 takes_all kinds.Counter op = takes op (operands.Counter 0)
 takes_all kinds.Function op = takes op (operands.Block (record { kind = Fc; number = 0 }))
 takes_all kinds.FunctionBlock op = takes op (operands.Block (record { kind = Fb; number = 0 }))
+takes_all (kinds.SystemFunction number) op = takes op operands.SystemFunction
 takes_all _ op = false
 
 -- only the form of the operand decides --
@@ -352,6 +353,9 @@ status_bit op s h n = rw (n.area, n.fits) (status_any op s.value h)
 
 status_word : (op : Operation) (s : Statement) → takes op operands.StatusWord ≡ true → s.area ≡ 15 → Reads op s
 status_word op s h a = rw a h
+
+system_function : (op : Operation) (s : Statement) → takes op operands.SystemFunction ≡ true → s.area ≡ 18 → Reads op s
+system_function op s h a = rw a h
 
 alone : (op : Operation) (s : Statement) → takes op operands.Nothing ≡ true → s.area ≡ 0 → Reads op s
 alone op s h a = rw a h
@@ -478,4 +482,4 @@ reads kinds.InstanceBlock op locals s t small out h = absurd cc
 reads kinds.Function op locals s t small out h = function op s t (numbered areas.Function 255 s h)
 reads kinds.FunctionBlock op locals s t small out h = function_block op s t (numbered areas.FunctionBlock 255 s h)
 reads kinds.FunctionBlockWithData op locals s t small out h = absurd cc
-reads (kinds.SystemFunction number) op locals s t small out h = absurd cc
+reads (kinds.SystemFunction number) op locals s t small out h = system_function op s t (exactly_named areas.SystemFunction number s h)

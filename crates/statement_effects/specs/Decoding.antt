@@ -71,6 +71,7 @@ other_operand s =
     else if is_in areas.StatusWord s then Some operands.StatusWord
     else if is_in areas.Function s then block_operand Fc s
     else if is_in areas.FunctionBlock s then block_operand Fb s
+    else if is_in areas.SystemFunction s then Some operands.SystemFunction
     else None
 
 -- the operand, if it is one that is supported

@@ -1,12 +1,12 @@
 -- What each statement does to what the statements see, and where it leads: one row a group.
-use Rattle.std.specs.Prelude.{ℕ, Option, Some, None, Result, Ok, Err}
+use Rattle.std.specs.Prelude.{ℕ, Bool, true, false, Option, Some, None, Result, Ok, Err}
 use Rattle.s7_base.specs.declared.statement.Statement.{Statement}
 use Rattle.statement_effects.specs.declared.areas.Registers.{Registers}
 use Rattle.statement_effects.specs.State.{Memory}
 use Rattle.statement_effects.specs.declared.instruction.Instruction.{Instruction}
 use Rattle.statement_effects.specs.declared.instruction.Instruction.TheVariants as groups
 use Rattle.statement_effects.specs.declared.instruction.Flow.{Flow}
-use Rattle.statement_effects.specs.declared.instruction.Flow.TheVariants.{Next, Call, CallInstance, End, Fail, AskNow}
+use Rattle.statement_effects.specs.declared.instruction.Flow.TheVariants.{Next, Call, CallInstance, End, Fail, AskNow, AskRetrigger, Stop}
 use Rattle.statement_effects.specs.Areas.{with_registers, with_status, with_accus}
 use Rattle.statement_effects.specs.Resolving.{resolve_bit, resolve_value, at_bit, at_value}
 use Rattle.statement_effects.specs.BitEffect.{effect_bit, effect_status, effect_group}
@@ -49,7 +49,15 @@ effect (groups.CallInstance callee number) memory = (memory, CallInstance callee
 effect (groups.CallWhenSet callee) memory = led memory (effect_call_when_set callee memory.registers)
 effect groups.End memory = (with_status memory (effect_end memory.registers.status), End)
 effect groups.EndWhenSet memory = led memory (effect_end_when_set memory.registers)
+effect groups.Retrigger memory = (memory, AskRetrigger)
+effect groups.Stop memory = (memory, Stop)
 effect groups.Nothing memory = (memory, Next)
+
+-- the statement asks first, and does what it does once it is answered
+abbrev pub asks_first : Flow → Bool
+asks_first AskNow = true
+asks_first AskRetrigger = true
+asks_first _ = false
 
 -- a stored form that is no statement does nothing; well-formed blocks have none
 abbrev pub effect_if : Option Instruction → Memory → Memory × Flow

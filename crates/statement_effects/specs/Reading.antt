@@ -128,6 +128,12 @@ with_block (operations.Block blocks.ConditionalCallFunction) = Some groups.CallW
 with_block (operations.Block blocks.ConditionalCallFunctionBlock) = Some groups.CallWhenSet
 with_block _ = None
 
+-- with a system function, which the operation says
+abbrev pub system_function_of : Operation → Option Instruction
+system_function_of (operations.Block blocks.CallRetrigger) = Some groups.Retrigger
+system_function_of (operations.Block blocks.CallStop) = Some groups.Stop
+system_function_of _ = None
+
 -- alone; of the statements on blocks the ends only
 abbrev pub alone : Operation → Option Instruction
 alone operations.AndBeforeOr = Some (groups.Status status.OrAlone)
@@ -161,6 +167,7 @@ means op (operands.Target target) = option_map (λ instruction. instruction targ
 means op (operands.Status n) = option_map (λ how. groups.Status (status.Check how n)) (status_check_of op)
 means op operands.StatusWord = status_word_of op
 means op (operands.Block callee) = option_map (λ instruction. instruction callee) (with_block op)
+means op operands.SystemFunction = system_function_of op
 
 abbrev pub read_row : Option InstructionRow → Statement → Option Instruction
 read_row None s = None

@@ -184,6 +184,8 @@ fn other_operand(s: &Statement) -> Option<Operand>
         block_operand(CodeKind::Fc, s)
     } else if is_in(s, OperandArea::FunctionBlock) {
         block_operand(CodeKind::Fb, s)
+    } else if is_in(s, OperandArea::SystemFunction) {
+        Some(Operand::SystemFunction)
     } else {
         None
     }

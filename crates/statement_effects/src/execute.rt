@@ -1,8 +1,8 @@
 //! What a statement does.
-ghost use Rattle.std.specs.Prelude.{◌≡◌, OnOk, IfErr};
+ghost use Rattle.std.specs.Prelude.{◌≡◌, true, OnOk, IfErr};
 ghost use Rattle.level_stack.specs.Levels.{block_counts};
 ghost use Rattle.statement_effects.specs.Placed.{HasOperand};
-ghost use Rattle.statement_effects.specs.Effect.{effect, effect_if};
+ghost use Rattle.statement_effects.specs.Effect.{effect, effect_if, asks_first};
 
 use crate::Memory;
 use crate::bits::execute_status;
@@ -26,7 +26,7 @@ impl Memory {
     fn execute(&mut self, i: Instruction) -> Flow
         requires { HasOperand i }
         ensures effect { effect i self.old ≡ (self.new, result) }
-        ensures asks { result ≡ Flow.AskNow → self.new ≡ self.old }
+        ensures asks { asks_first result ≡ true → self.new ≡ self.old }
     {
         match i {
             Instruction::Bit(i, operand) => return flow_of(self.execute_bit(i, operand)),
@@ -54,17 +54,19 @@ impl Memory {
                 return Flow::End;
             }
             Instruction::EndWhenSet => return self.registers.execute_end_when_set(),
+            Instruction::Retrigger => return Flow::AskRetrigger,
+            Instruction::Stop => return Flow::Stop,
             Instruction::Nothing => {}
         }
         Flow::Next
     }
 
-    /// Does what a decoded statement does, and returns where it leads. A statement that needs the moment changes nothing yet.
+    /// Does what a decoded statement does, and returns where it leads. A statement that asks first changes nothing yet.
     pub fn perform(&mut self, statement: &Decoded) -> Flow
         ensures effect { effect_if statement.now self.old ≡ (self.new, result) }
         // it begins and ends no block
         ensures blocks { block_counts self.new.levels ≡ block_counts self.old.levels }
-        ensures asks { result ≡ Flow.AskNow → self.new ≡ self.old }
+        ensures asks { asks_first result ≡ true → self.new ≡ self.old }
     {
         match statement.instruction() {
             Some(i) => self.execute(i),

@@ -114,6 +114,8 @@ pub enum Operand {
     StatusWord,
     /// A block that is called.
     Block(BlockRef),
+    /// A system function. The operation says which.
+    SystemFunction,
 }
 
 /// Statements on a bit.
@@ -315,6 +317,10 @@ pub enum Instruction {
     End,
     /// `BEC`
     EndWhenSet,
+    /// `CALL SFC 43`
+    Retrigger,
+    /// `CALL SFC 46`
+    Stop,
     /// `NOP` and `BLD`
     Nothing,
 }
@@ -347,4 +353,8 @@ pub enum Flow {
     Fail(u8),
     /// It asks for the moment first.
     AskNow,
+    /// It asks first to start the monitoring of the cycle anew.
+    AskRetrigger,
+    /// To the stop of the CPU, which it asks for. The statement is not completed.
+    Stop,
 }

@@ -1,7 +1,8 @@
 //! Jumps, conditional calls and ends of blocks.
-ghost use Rattle.std.specs.Prelude.{◌≡◌, ◌≢◌, ◌≤◌};
+ghost use Rattle.std.specs.Prelude.{◌≡◌, ◌≤◌, false};
 ghost use Rattle.accumulators.specs.declared.parts.Part.{Part};
 ghost use Rattle.accumulators.specs.Parts.{with_low};
+ghost use Rattle.statement_effects.specs.Effect.{asks_first};
 ghost use Rattle.statement_effects.specs.JumpEffect.{lowered, effect_jump, effect_call_when_set, effect_end_when_set};
 
 use crate::Registers;
@@ -24,7 +25,7 @@ impl Registers {
     /// A jump.
     pub(crate) fn execute_jump(&mut self, i: JumpInstruction) -> Flow
         ensures effect { effect_jump i self.old ≡ (self.new, result) }
-        ensures goes { result ≢ Flow.AskNow }
+        ensures goes { asks_first result ≡ false }
     {
         match i {
             JumpInstruction::When(how, target) => {
@@ -53,7 +54,7 @@ impl Registers {
     /// `CC`.
     pub(crate) fn execute_call_when_set(&mut self, callee: BlockRef) -> Flow
         ensures effect { effect_call_when_set callee self.old ≡ (self.new, result) }
-        ensures goes { result ≢ Flow.AskNow }
+        ensures goes { asks_first result ≡ false }
     {
         if self.status.rlo {
             Flow::Call(callee)
@@ -66,7 +67,7 @@ impl Registers {
     /// `BEC`.
     pub(crate) fn execute_end_when_set(&mut self) -> Flow
         ensures effect { effect_end_when_set self.old ≡ (self.new, result) }
-        ensures goes { result ≢ Flow.AskNow }
+        ensures goes { asks_first result ≡ false }
     {
         if self.status.rlo {
             self.status.after_block();

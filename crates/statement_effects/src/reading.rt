@@ -1,6 +1,6 @@
 //! What stored statements mean.
 ghost use Rattle.std.specs.Prelude.{◌≡◌, Some, IfSome};
-ghost use Rattle.statement_effects.specs.Reading.{bit_of, status_check_of, move_of, status_word_of, timer_of, timed_of, counter_of, logic, alone, means, instruction_of};
+ghost use Rattle.statement_effects.specs.Reading.{bit_of, status_check_of, move_of, status_word_of, timer_of, timed_of, counter_of, logic, alone, system_function_of, means, instruction_of};
 ghost use Rattle.statement_effects.specs.Placed.{IsOperand, HasOperand};
 ghost use Rattle.statement_effects.specs.declared.instruction.Operand.TheVariants as operands;
 
@@ -225,6 +225,18 @@ fn with_block(op: Operation, callee: BlockRef) -> Option<Instruction>
     }
 }
 
+/// With a system function.
+fn system_function_of(op: Operation) -> Option<Instruction>
+    ensures means { result ≡ system_function_of op }
+    ensures placed { IfSome result HasOperand }
+{
+    match op {
+        Operation::Block(BlockOperation::CallRetrigger) => Some(Instruction::Retrigger),
+        Operation::Block(BlockOperation::CallStop) => Some(Instruction::Stop),
+        _ => None,
+    }
+}
+
 /// What an operation with an operand means.
 fn means(op: Operation, operand: Operand) -> Option<Instruction>
     requires { IsOperand operand }
@@ -255,6 +267,7 @@ fn means(op: Operation, operand: Operand) -> Option<Instruction>
         }
         Operand::StatusWord => status_word_of(op),
         Operand::Block(callee) => with_block(op, callee),
+        Operand::SystemFunction => system_function_of(op),
     }
 }
 

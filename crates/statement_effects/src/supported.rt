@@ -9,8 +9,7 @@ use crate::decoding::is_in;
 use instruction_set::{BlockOperation, OperandArea, Operation, instruction_row};
 use s7_base::Statement;
 
-/// Whether the operation opens or exchanges data blocks, calls a function block with its data block, or calls a system
-/// function.
+/// Whether the operation opens or exchanges data blocks, or calls a function block with its data block.
 fn is_unsupported(operation: Operation) -> bool
     ensures { result ≡ is_unsupported operation }
 {
@@ -19,9 +18,7 @@ fn is_unsupported(operation: Operation) -> bool
             BlockOperation::OpenData
             | BlockOperation::OpenInstance
             | BlockOperation::ExchangeData
-            | BlockOperation::CallFunctionBlock
-            | BlockOperation::CallRetrigger
-            | BlockOperation::CallStop,
+            | BlockOperation::CallFunctionBlock,
         ) => true,
         _ => false,
     }
@@ -57,7 +54,7 @@ pub fn is_local(statement: &Statement) -> bool
     is_in(statement, OperandArea::Local)
 }
 
-/// Returns whether a statement is one that is supported: its operand is none of a data block or of the peripherals, and it opens no data block, and calls no function block with its data block and no system function.
+/// Returns whether a statement is one that is supported: its operand is none of a data block or of the peripherals, and it opens no data block, and calls no function block with its data block.
 pub fn is_supported(statement: &Statement) -> bool
     ensures { result ≡ is_supported statement.now }
 {
