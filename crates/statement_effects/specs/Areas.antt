@@ -1,5 +1,5 @@
 -- What the statements see, and how parts of it are read and written.
-use Rattle.std.specs.Prelude.{ℕ, ◌+◌, ◌-◌, ◌*◌, ◌/◌, ◌%◌, ◌^◌, ◌==◌, Bool, List, [], replicate, if◌then◌else◌, slice_index, slice_range, slice_set, bit_or, bit_and}
+use Rattle.std.specs.Prelude.{ℕ, ◌+◌, ◌-◌, ◌*◌, ◌/◌, ◌%◌, ◌^◌, ◌==◌, Bool, false, List, [], replicate, if◌then◌else◌, Option, None, slice_index, slice_range, slice_set, bit_or, bit_and}
 use Rattle.status_word.specs.declared.status.StatusWord.{StatusWord}
 use Rattle.status_word.specs.Status.{cleared_status}
 use Rattle.accumulators.specs.declared.accus.Accus.{Accus}
@@ -27,7 +27,7 @@ use Rattle.statement_effects.specs.declared.instruction.Width.TheVariants.{Byte,
 
 -- where no block has begun
 abbrev pub clear_registers : Registers
-clear_registers = record { status = cleared_status; accus = cleared_accus; unit = cleared_unit }
+clear_registers = record { status = cleared_status; accus = cleared_accus; unit = cleared_unit; «data» = record { block = None; instance = None } }
 
 abbrev pub with_registers : Memory → Registers → Memory
 with_registers memory registers = record memory { registers = registers }
@@ -92,10 +92,12 @@ with_local_value memory at width value = record memory { levels = with_last (wri
 -- the bit at a place
 abbrev pub bit_at : Memory → BitOperand → Bool
 bit_at memory (bit_operands.Area place) = area_bit_at memory place
+bit_at memory (bit_operands.Data place) = false
 bit_at memory (bit_operands.Local place) = bit_of (local_value memory place.at_byte 1) place.bit
 
 abbrev pub with_bit_at : Memory → BitOperand → Bool → Memory
 with_bit_at memory (bit_operands.Area place) value = with_area_bit_at memory place value
+with_bit_at memory (bit_operands.Data place) value = memory
 with_bit_at memory (bit_operands.Local place) value =
     with_local_value memory place.at_byte 1 (with_bit (local_value memory place.at_byte 1) place.bit value)
 
@@ -139,12 +141,18 @@ low_part Double value = value
 -- the value at a place
 abbrev pub value_at : Memory → ValueOperand → ℕ
 value_at memory (value_operands.Area place) = area_value_at memory place
+value_at memory (value_operands.Data place) = 0
 value_at memory (value_operands.Local place) = local_value memory place.at_byte (bytes_in place.width)
 
 abbrev pub with_value_at : Memory → ValueOperand → ℕ → Memory
 with_value_at memory (value_operands.Area place) value = with_area_value_at memory place value
+with_value_at memory (value_operands.Data place) value = memory
 with_value_at memory (value_operands.Local place) value =
     with_local_value memory place.at_byte (bytes_in place.width) (low_part place.width value)
+
+-- how many bytes a data block has, if it is loaded
+unfoldable pub data_length : Memory → ℕ → Option ℕ
+data_length memory number = None
 
 -- the start --
 

@@ -26,18 +26,22 @@ IsValuePlaced place = place.at_byte + bytes_in place.width ≤ size_of place.are
 abbrev pub IsBitOperand : BitOperand → Type 0
 IsBitOperand (bits.Area place) = IsBitPlaced place
 IsBitOperand (bits.Local place) = place.bit ≤ 7
+IsBitOperand (bits.Data place) = place.bit ≤ 7
 
 abbrev pub IsValueOperand : ValueOperand → Type 0
 IsValueOperand (values.Area place) = IsValuePlaced place
 IsValueOperand (values.Local place) = Unit {0}
+IsValueOperand (values.Data place) = Unit {0}
 
 -- a place that was found: one in the local data lies in that of the block that runs
 abbrev pub IsBitThere : Memory → BitOperand → Type 0
 IsBitThere memory (bits.Area place) = IsBitPlaced place
+IsBitThere memory (bits.Data place) = ⊥
 IsBitThere memory (bits.Local place) = (place.at_byte + 1 ≤ length (running_locals memory.levels)) × (place.bit ≤ 7)
 
 abbrev pub IsValueThere : Memory → ValueOperand → Type 0
 IsValueThere memory (values.Area place) = IsValuePlaced place
+IsValueThere memory (values.Data place) = ⊥
 IsValueThere memory (values.Local place) = place.at_byte + bytes_in place.width ≤ length (running_locals memory.levels)
 
 abbrev pub IsOperand : Operand → Type 0

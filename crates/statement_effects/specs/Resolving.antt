@@ -17,10 +17,12 @@ in_locals end operand memory = if nat_le end (length (running_locals memory.leve
 -- the memory with the operand found, and its place: the bytes of the inputs, the outputs and the bit memory are always there
 abbrev pub resolve_bit : BitOperand → Memory → Result (Memory × BitOperand) ℕ
 resolve_bit (bits.Area place) memory = Ok (memory, bits.Area place)
+resolve_bit (bits.Data place) memory = Err 8
 resolve_bit (bits.Local place) memory = in_locals (place.at_byte + 1) (bits.Local place) memory
 
 abbrev pub resolve_value : ValueOperand → Memory → Result (Memory × ValueOperand) ℕ
 resolve_value (values.Area place) memory = Ok (memory, values.Area place)
+resolve_value (values.Data place) memory = Err 8
 resolve_value (values.Local place) memory = in_locals (place.at_byte + bytes_in place.width) (values.Local place) memory
 
 -- the row of a statement works on the place that was found; where none was, the statement fails

@@ -1,6 +1,6 @@
 //! What the statements see.
 ghost use Rattle.std.specs.Prelude.{◌≡◌, length, slice_get};
-ghost use Rattle.statement_effects.specs.Areas.{clear_registers, with_registers, bytes_of, start_memory};
+ghost use Rattle.statement_effects.specs.Areas.{clear_registers, with_registers, bytes_of, data_length, start_memory};
 
 use crate::instruction::ByteArea;
 use accumulators::Accus;
@@ -118,6 +118,15 @@ impl Memory {
             ByteArea::Q => self.outputs.get(at).copied(),
             ByteArea::M => self.flags.get(at).copied(),
         }
+    }
+
+    /// Returns how many bytes a data block has. None exactly where it is not loaded.
+    #[tactic(auto, unfolding(crate::specs::Areas::data_length))]
+    pub fn data_length(&self, number: u8) -> Option<u16>
+        ensures { result ≡ data_length self.now number }
+    {
+        let _ = number;
+        None
     }
 
     /// Returns the timer of a number. None exactly where there is none.

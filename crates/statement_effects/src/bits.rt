@@ -66,6 +66,7 @@ impl Memory {
     {
         match place {
             BitOperand::Area(place) => self.read_area_bit(place),
+            BitOperand::Data(_) => false,
             BitOperand::Local(place) => bit_from(self.local_byte(place.at_byte), place.bit),
         }
     }
@@ -88,6 +89,7 @@ impl Memory {
     {
         match place {
             BitOperand::Area(place) => self.write_area_bit(place, value),
+            BitOperand::Data(_) => {}
             BitOperand::Local(place) => {
                 let byte = byte_with(self.local_byte(place.at_byte), place.bit, value);
                 self.put_local_byte(place.at_byte, byte);

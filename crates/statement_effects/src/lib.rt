@@ -5,6 +5,7 @@ mod areas;
 mod bits;
 mod clocks;
 mod counting;
+mod data;
 mod decoded;
 mod decoding;
 mod execute;
@@ -19,13 +20,14 @@ mod reading;
 mod resolving;
 mod supported;
 
-pub use areas::{Memory, Registers};
+pub use areas::{DataRegisters, Memory, Registers};
 pub use decoded::{Decoded, DecodedBlock};
 pub use instruction::{
-    AccuInstruction, BitInstruction, BitOperand, BitPlace, ByteArea, CounterOperation,
-    DirectInstruction, Flow, GroupInstruction, Instruction, JumpInstruction, LocalBit, LocalValue,
-    MoveInstruction, NumberInstruction, Operand, StatusInstruction, TimedOperation, TimerOperation,
-    ValueOperand, ValuePlace, Width, WordInstruction,
+    AccuInstruction, BitInstruction, BitOperand, BitPlace, ByteArea, CounterOperation, DataBit,
+    DataBlockName, DataInstruction, DataNumber, DataValue, DirectInstruction, Flow,
+    GroupInstruction, Instruction, JumpInstruction, LocalBit, LocalValue, MoveInstruction,
+    NumberInstruction, Operand, StatusInstruction, TimedOperation, TimerOperation, ValueOperand,
+    ValuePlace, Width, WordInstruction,
 };
 pub use laws::supported_statements_mean_instructions;
 pub use level_stack::LevelFault;

@@ -76,6 +76,7 @@ impl Memory {
     {
         match place {
             ValueOperand::Area(place) => self.read_area_value(place),
+            ValueOperand::Data(_) => 0,
             ValueOperand::Local(place) => self.local_value(place),
         }
     }
@@ -98,6 +99,7 @@ impl Memory {
     {
         match place {
             ValueOperand::Area(place) => self.write_area_value(place, value),
+            ValueOperand::Data(_) => {}
             ValueOperand::Local(place) => self.put_local_value(place, value),
         }
     }

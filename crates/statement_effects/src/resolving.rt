@@ -5,7 +5,7 @@ ghost use Rattle.statement_effects.specs.Placed.{IsBitOperand, IsBitThere, IsVal
 ghost use Rattle.statement_effects.specs.Resolving.{resolve_bit, resolve_value};
 
 use crate::Memory;
-use crate::instruction::{BitOperand, PAST_THE_END, ValueOperand};
+use crate::instruction::{BitOperand, NO_DATA_BLOCK, PAST_THE_END, ValueOperand};
 
 impl Memory {
     /// Whether the local data of the block that runs has so many bytes.
@@ -29,6 +29,7 @@ impl Memory {
     {
         match operand {
             BitOperand::Area(_) => Ok(operand),
+            BitOperand::Data(_) => Err(NO_DATA_BLOCK),
             BitOperand::Local(place) => {
                 if !self.has_locals(u16::from(place.at_byte) + 1) {
                     return Err(PAST_THE_END);
@@ -52,6 +53,7 @@ impl Memory {
     {
         match operand {
             ValueOperand::Area(_) => Ok(operand),
+            ValueOperand::Data(_) => Err(NO_DATA_BLOCK),
             ValueOperand::Local(place) => {
                 if !self.has_locals(u16::from(place.at_byte) + u16::from(place.width.bytes())) {
                     return Err(PAST_THE_END);
