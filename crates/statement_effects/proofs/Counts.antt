@@ -1,6 +1,6 @@
 -- No statement begins or ends a block.
-use Rattle.std.proofs.Common.{◌≡◌, ℕ, Bool, true, false, List, Result, Ok, Err, refl}
-use Rattle.std.specs.Prelude.{◌+◌, ◌%◌, ◌&&◌, not, nat_le, length, if◌then◌else◌}
+use Rattle.std.proofs.Common.{◌≡◌, ℕ, Bool, true, false, List, Some, Result, Ok, Err, refl}
+use Rattle.std.specs.Prelude.{◌+◌, ◌%◌, ◌&&◌, not, nat_le, length, is_some}
 use Rattle.std.proofs.lemmas.Bool.{cond_both}
 use Rattle.instruction_set.specs.declared.operation.BitWrite.TheVariants as writes
 use Rattle.s5_time.specs.Bcd.{is_bcd}
@@ -9,6 +9,7 @@ use Rattle.timers.specs.Rule.{starts}
 use Rattle.level_stack.specs.Levels.{running_locals, block_counts}
 use Rattle.level_stack.proofs.Counts.{written_counts}
 use Rattle.statement_effects.specs.State.{Memory}
+use Rattle.statement_effects.specs.declared.areas.DataRegisters.{DataRegisters}
 use Rattle.statement_effects.specs.declared.areas.Registers.{Registers}
 use Rattle.statement_effects.specs.declared.instruction.ByteArea.{ByteArea}
 use Rattle.statement_effects.specs.declared.instruction.ByteArea.TheVariants.{I, Q, M}
@@ -26,15 +27,18 @@ use Rattle.statement_effects.specs.declared.instruction.CounterOperation.{Counte
 use Rattle.statement_effects.specs.declared.instruction.CounterOperation.TheVariants as counting
 use Rattle.statement_effects.specs.declared.instruction.TimedOperation.{TimedOperation}
 use Rattle.statement_effects.specs.declared.instruction.TimedOperation.TheVariants as timed
+use Rattle.statement_effects.specs.declared.instruction.DataInstruction.{DataInstruction}
+use Rattle.statement_effects.specs.declared.instruction.DataInstruction.TheVariants as data_blocks
 use Rattle.statement_effects.specs.declared.instruction.Instruction.{Instruction}
 use Rattle.statement_effects.specs.declared.instruction.Instruction.TheVariants as groups
-use Rattle.statement_effects.specs.Areas.{with_bytes, with_bit, with_bit_at, with_value_at, bytes_in, low_part, local_value, is_off}
-use Rattle.statement_effects.specs.Resolving.{in_locals, resolve_bit, resolve_value, at_bit, at_value}
+use Rattle.statement_effects.specs.Areas.{with_bytes, with_bit, with_bit_at, with_value_at, bytes_in, low_part, local_value, is_off, data_length}
+use Rattle.statement_effects.specs.Resolving.{resolve_bit, resolve_value, at_bit, at_value}
 use Rattle.statement_effects.specs.BitEffect.{with_bit_where, effect_bit, effect_group}
 use Rattle.statement_effects.specs.MoveEffect.{effect_move, effect_direct, transferred}
 use Rattle.statement_effects.specs.NumberEffect.{effect_number}
-use Rattle.statement_effects.specs.TimerEffect.{timer_at, effect_start, effect_timed}
-use Rattle.statement_effects.specs.CounterEffect.{counter_at, effect_set, effect_counter}
+use Rattle.statement_effects.specs.DataEffect.{opened, effect_data}
+use Rattle.statement_effects.specs.TimerEffect.{timer_at, effect_timed}
+use Rattle.statement_effects.specs.CounterEffect.{counter_at, effect_counter}
 use Rattle.statement_effects.specs.Effect.{onward, onward_with, effect}
 
 -- as many blocks have begun as before
@@ -63,6 +67,7 @@ bytes_begun m M bytes = refl
 
 bit_begun : (m : Memory) (place : BitOperand) (value : Bool) → Begun m (with_bit_at m place value)
 bit_begun m (bit_operands.Area place) value = bytes_begun m place.area _
+bit_begun m (bit_operands.Data place) value = refl
 bit_begun m (bit_operands.Local place) value = written_counts m.levels place.at_byte 1 (with_bit (local_value m place.at_byte 1) place.bit value)
 
 where_begun : (b : Bool) (m : Memory) (place : BitOperand) (value : Bool) → Begun m (with_bit_where b m place value)
@@ -78,6 +83,7 @@ bits_begun (bits.Edge edge) place m = bit_begun m place _
 
 value_begun : (m : Memory) (place : ValueOperand) (value : ℕ) → Begun m (with_value_at m place value)
 value_begun m (value_operands.Area place) value = bytes_begun m place.area _
+value_begun m (value_operands.Data place) value = refl
 value_begun m (value_operands.Local place) value = written_counts m.levels place.at_byte (bytes_in place.width) (low_part place.width value)
 
 moves_begun : (i : MoveInstruction) (place : ValueOperand) (m : Memory) → Begun m (effect_move i place m)
@@ -93,15 +99,28 @@ direct_begun direct.StoreStatus m = refl
 
 found_bit : (i : BitInstruction) (operand : BitOperand) (m : Memory) → BegunIf m (at_bit (effect_bit i) (resolve_bit operand m))
 found_bit i (bit_operands.Area place) m = bits_begun i (bit_operands.Area place) m
+found_bit i (bit_operands.Data place) m = tt
 found_bit i (bit_operands.Local place) m =
     cond_both (nat_le (place.at_byte + 1) (length (running_locals m.levels))) _ _ (λ r. BegunIf m (at_bit (effect_bit i) r))
     (λ e. bits_begun i (bit_operands.Local place) m) (λ e. tt)
 
 found_value : (i : MoveInstruction) (operand : ValueOperand) (m : Memory) → BegunIf m (at_value (effect_move i) (resolve_value operand m))
 found_value i (value_operands.Area place) m = moves_begun i (value_operands.Area place) m
+found_value i (value_operands.Data place) m = tt
 found_value i (value_operands.Local place) m =
     cond_both (nat_le (place.at_byte + bytes_in place.width) (length (running_locals m.levels))) _ _ (λ r. BegunIf m (at_value (effect_move i) r))
     (λ e. moves_begun i (value_operands.Local place) m) (λ e. tt)
+
+-- data blocks
+
+opened_begun : (number : ℕ) (registers : DataRegisters) (m : Memory) → BegunIf m (opened number registers m)
+opened_begun number registers m = cond_both (is_some (data_length m number)) _ _ (BegunIf m) (λ e. refl) (λ e. tt)
+
+data_begun : (i : DataInstruction) (m : Memory) → BegunIf m (effect_data i m)
+data_begun (data_blocks.Open number) m = opened_begun number (record m.registers.«data» { block = Some number }) m
+data_begun (data_blocks.OpenInstance number) m = opened_begun number (record m.registers.«data» { instance = Some number }) m
+data_begun data_blocks.Exchange m = refl
+data_begun (data_blocks.Load what) m = refl
 
 -- timers and counters
 
@@ -136,7 +155,9 @@ effect_begun (groups.Jump i) m = refl
 effect_begun (groups.Timer op n) m = refl
 effect_begun (groups.Timed op n) m = refl
 effect_begun (groups.Counter op n) m = onward_begun m (effect_counter op n m) (counter_begun op n m)
+effect_begun (groups.Data i) m = onward_begun m (effect_data i m) (data_begun i m)
 effect_begun (groups.Call callee) m = refl
+effect_begun (groups.CallInstance callee number) m = refl
 effect_begun (groups.CallWhenSet callee) m = refl
 effect_begun groups.End m = refl
 effect_begun groups.EndWhenSet m = refl

@@ -10,7 +10,7 @@ use Rattle.instruction_set.specs.Rows.{row_of}
 use Rattle.s7_base.specs.Statements.{is_of_row, is_statement}
 use Rattle.statement_effects.specs.Supported.{is_elsewhere, is_unsupported, is_unsupported_row, is_supported}
 use Rattle.statement_effects.specs.Reading.{read_row, instruction_of}
-use Rattle.statement_effects.proofs.Operands.{IsHere, is_here, takes_all, Reads, reads}
+use Rattle.statement_effects.proofs.Operands.{IsHere, is_here, takes_all, ReadsAs, reads}
 
 -- an operation that is supported takes each form of operand of its kind
 abbrev row_takes : InstructionRow → Bool
@@ -20,7 +20,7 @@ rows_take : list_all row_takes instruction_set ≡ true
 rows_take = refl
 
 reads_row : (row : InstructionRow) (locals : ℕ) (s : Statement) → row_takes row ≡ true → locals ≤ 256 → IsHere s → is_of_row (Some row) locals s ≡ true → is_unsupported_row (Some row) ≡ false
-    → Reads row.operation s
+    → ReadsAs row.operand row.operation s
 reads_row row locals s t small out allowed plain =
     elim (or_cases (is_unsupported row.operation) (takes_all row.operand row.operation) t) [
       | inl left_out ↦ absurd (both_ways (is_unsupported row.operation) plain left_out)

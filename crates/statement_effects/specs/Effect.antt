@@ -6,7 +6,7 @@ use Rattle.statement_effects.specs.State.{Memory}
 use Rattle.statement_effects.specs.declared.instruction.Instruction.{Instruction}
 use Rattle.statement_effects.specs.declared.instruction.Instruction.TheVariants as groups
 use Rattle.statement_effects.specs.declared.instruction.Flow.{Flow}
-use Rattle.statement_effects.specs.declared.instruction.Flow.TheVariants.{Next, Call, End, Fail, AskNow}
+use Rattle.statement_effects.specs.declared.instruction.Flow.TheVariants.{Next, Call, CallInstance, End, Fail, AskNow}
 use Rattle.statement_effects.specs.Areas.{with_registers, with_status, with_accus}
 use Rattle.statement_effects.specs.Resolving.{resolve_bit, resolve_value, at_bit, at_value}
 use Rattle.statement_effects.specs.BitEffect.{effect_bit, effect_status, effect_group}
@@ -15,6 +15,7 @@ use Rattle.statement_effects.specs.NumberEffect.{effect_number, effect_word}
 use Rattle.statement_effects.specs.JumpEffect.{effect_jump, effect_call_when_set, effect_end, effect_end_when_set}
 use Rattle.statement_effects.specs.TimerEffect.{effect_timer}
 use Rattle.statement_effects.specs.CounterEffect.{effect_counter}
+use Rattle.statement_effects.specs.DataEffect.{effect_data}
 use Rattle.statement_effects.specs.Reading.{instruction_of}
 
 -- the next statement follows over the new memory; a statement that fails changes nothing
@@ -43,7 +44,9 @@ effect (groups.Jump i) memory = led memory (effect_jump i memory.registers)
 effect (groups.Timer op n) memory = (effect_timer op n memory, Next)
 effect (groups.Timed op n) memory = (memory, AskNow)
 effect (groups.Counter op n) memory = onward memory (effect_counter op n memory)
+effect (groups.Data i) memory = onward memory (effect_data i memory)
 effect (groups.Call callee) memory = (memory, Call callee)
+effect (groups.CallInstance callee number) memory = (memory, CallInstance callee number)
 effect (groups.CallWhenSet callee) memory = led memory (effect_call_when_set callee memory.registers)
 effect groups.End memory = (with_status memory (effect_end memory.registers.status), End)
 effect groups.EndWhenSet memory = led memory (effect_end_when_set memory.registers)

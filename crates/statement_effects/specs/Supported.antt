@@ -4,26 +4,19 @@ use Rattle.s7_base.specs.declared.statement.Statement.{Statement}
 use Rattle.instruction_set.specs.declared.table.InstructionRow.{InstructionRow}
 use Rattle.instruction_set.specs.declared.operation.Operation.{Operation}
 use Rattle.instruction_set.specs.declared.operation.Operation.TheVariants.{Block}
-use Rattle.instruction_set.specs.declared.operation.BlockOperation.TheVariants.{OpenData, OpenInstance, ExchangeData, CallFunctionBlock, CallRetrigger, CallStop}
+use Rattle.instruction_set.specs.declared.operation.BlockOperation.TheVariants.{CallRetrigger, CallStop}
 use Rattle.instruction_set.specs.declared.operands.OperandArea.TheVariants as areas
 use Rattle.instruction_set.specs.Rows.{row_of}
 use Rattle.s7_base.specs.Operands.{is_in}
 use Rattle.s7_base.specs.Statements.{is_statement}
 use Rattle.statement_effects.specs.Reading.{instruction_of}
 
--- the operand is of a data block or of the peripherals, or is the length or number of an opened data block
+-- the operand is of the peripherals
 abbrev pub is_elsewhere : Statement → Bool
-is_elsewhere s =
-    is_in areas.Data s || is_in areas.Instance s || is_in areas.PeripheralIn s || is_in areas.PeripheralOut s
-    || is_in areas.DataLength s || is_in areas.DataNumber s || is_in areas.InstanceLength s || is_in areas.InstanceNumber s
+is_elsewhere s = is_in areas.PeripheralIn s || is_in areas.PeripheralOut s
 
--- an operation that is not supported yet: it opens or exchanges data blocks, calls a function block with its data block, or
--- calls a system function
+-- an operation that is not supported yet: it calls a system function
 abbrev pub is_unsupported : Operation → Bool
-is_unsupported (Block OpenData) = true
-is_unsupported (Block OpenInstance) = true
-is_unsupported (Block ExchangeData) = true
-is_unsupported (Block CallFunctionBlock) = true
 is_unsupported (Block CallRetrigger) = true
 is_unsupported (Block CallStop) = true
 is_unsupported _ = false

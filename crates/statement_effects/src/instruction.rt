@@ -124,6 +124,14 @@ pub enum Operand {
     StatusWord,
     /// A block that is called.
     Block(BlockRef),
+    /// A function block that is called, with the number of its data block.
+    BlockWithData(BlockRef, u8),
+    /// The data block of this number, to open as DB.
+    DataBlock(u8),
+    /// The data block of this number, to open as DI.
+    InstanceBlock(u8),
+    /// The length or the number of an opened data block.
+    DataNumber(DataNumber),
 }
 
 /// Statements on a bit.
