@@ -1,6 +1,6 @@
 -- No statement begins or ends a block.
 use Rattle.std.proofs.Common.{◌≡◌, ℕ, Bool, true, false, List, Option, Some, None, Result, Ok, Err, refl, ◌∙◌}
-use Rattle.std.specs.Prelude.{◌+◌, ◌%◌, ◌&&◌, not, nat_le, length, if◌then◌else◌}
+use Rattle.std.specs.Prelude.{◌+◌, ◌%◌, ◌&&◌, not, nat_le, length, is_some, if◌then◌else◌}
 use Rattle.std.proofs.lemmas.Bool.{cond_both}
 use Rattle.instruction_set.specs.declared.operation.BitWrite.TheVariants as writes
 use Rattle.s5_time.specs.Bcd.{is_bcd}
@@ -9,6 +9,7 @@ use Rattle.timers.specs.Rule.{starts}
 use Rattle.level_stack.specs.Levels.{running_locals, block_counts}
 use Rattle.level_stack.proofs.Counts.{written_counts}
 use Rattle.statement_effects.specs.State.{Memory}
+use Rattle.statement_effects.specs.declared.areas.DataRegisters.{DataRegisters}
 use Rattle.statement_effects.specs.declared.areas.Registers.{Registers}
 use Rattle.cpu_image.specs.Values.{with_bit}
 use Rattle.cpu_image.specs.declared.area.ByteArea.TheVariants.{Db}
@@ -28,6 +29,8 @@ use Rattle.statement_effects.specs.declared.instruction.CounterOperation.{Counte
 use Rattle.statement_effects.specs.declared.instruction.CounterOperation.TheVariants as counting
 use Rattle.statement_effects.specs.declared.instruction.TimedOperation.{TimedOperation}
 use Rattle.statement_effects.specs.declared.instruction.TimedOperation.TheVariants as timed
+use Rattle.statement_effects.specs.declared.instruction.DataInstruction.{DataInstruction}
+use Rattle.statement_effects.specs.declared.instruction.DataInstruction.TheVariants as data_blocks
 use Rattle.statement_effects.specs.declared.instruction.Instruction.{Instruction}
 use Rattle.statement_effects.specs.declared.instruction.Instruction.TheVariants as groups
 use Rattle.statement_effects.specs.Areas.{data_length, with_bit_at, with_value_at, bytes_in, low_part, local_value, is_off}
@@ -35,8 +38,9 @@ use Rattle.statement_effects.specs.Resolving.{in_locals, data_number, with_named
 use Rattle.statement_effects.specs.BitEffect.{with_bit_where, effect_bit, effect_group}
 use Rattle.statement_effects.specs.MoveEffect.{effect_move, effect_direct, transferred}
 use Rattle.statement_effects.specs.NumberEffect.{effect_number}
-use Rattle.statement_effects.specs.TimerEffect.{timer_at, effect_start, effect_timed}
-use Rattle.statement_effects.specs.CounterEffect.{counter_at, effect_set, effect_counter}
+use Rattle.statement_effects.specs.DataEffect.{opened, effect_data}
+use Rattle.statement_effects.specs.TimerEffect.{timer_at, effect_timed}
+use Rattle.statement_effects.specs.CounterEffect.{counter_at, effect_counter}
 use Rattle.statement_effects.specs.Effect.{onward, onward_with, effect}
 
 -- as many blocks have begun as before
@@ -129,6 +133,17 @@ found_value i (value_operands.Data place) m =
     (λ n. moves_begun i (value_operands.Area (record { area = Db n; at_byte = place.at_byte; width = place.width })) (with_named place.block m) ∙ named_begun place.block m)
     (λ error. tt)
 
+-- data blocks
+
+opened_begun : (number : ℕ) (registers : DataRegisters) (m : Memory) → BegunIf m (opened number registers m)
+opened_begun number registers m = cond_both (is_some (data_length m number)) _ _ (BegunIf m) (λ e. refl) (λ e. tt)
+
+data_begun : (i : DataInstruction) (m : Memory) → BegunIf m (effect_data i m)
+data_begun (data_blocks.Open number) m = opened_begun number (record m.registers.«data» { block = Some number }) m
+data_begun (data_blocks.OpenInstance number) m = opened_begun number (record m.registers.«data» { instance = Some number }) m
+data_begun data_blocks.Exchange m = refl
+data_begun (data_blocks.Load what) m = refl
+
 -- timers and counters
 
 counter_begun : (op : CounterOperation) (n : ℕ) (m : Memory) → BegunIf m (effect_counter op n m)
@@ -162,7 +177,7 @@ effect_begun (groups.Jump i) m = refl
 effect_begun (groups.Timer op n) m = refl
 effect_begun (groups.Timed op n) m = refl
 effect_begun (groups.Counter op n) m = onward_begun m (effect_counter op n m) (counter_begun op n m)
-effect_begun (groups.Data i) m = refl
+effect_begun (groups.Data i) m = onward_begun m (effect_data i m) (data_begun i m)
 effect_begun (groups.Call callee) m = refl
 effect_begun (groups.CallInstance callee number) m = refl
 effect_begun (groups.CallWhenSet callee) m = refl

@@ -1,5 +1,5 @@
 -- Each operand that is allowed and is supported is decoded, and is of a form that its kind allows.
-use Rattle.std.proofs.Common.{◌≡◌, ℕ, ◌+◌, ◌<◌, ◌≤◌, Bool, true, false, ◌&&◌, ◌||◌, Option, Some, None, refl, subst, inl, inr, arith}
+use Rattle.std.proofs.Common.{◌≡◌, ℕ, ◌+◌, ◌<◌, ◌≤◌, Bool, true, false, ◌&&◌, ◌||◌, Option, Some, None, refl, ap, subst, inl, inr, arith}
 use Rattle.std.specs.Prelude.{◌⊎◌, ◌==◌, is_some, nat_lt, nat_le}
 use Rattle.std.specs.Option.{option_map, option_or}
 use Rattle.std.proofs.lemmas.Bool.{both_ways, and_parts, or_cases, or_parts, eqb-true, ne_eqb, cases_eq, leb-true, ltb-true, lt-ltb, le-leb}
@@ -16,7 +16,12 @@ use Rattle.s7_base.specs.Operands.{is_in, is_data_number, ends_by, is_within, is
 use Rattle.statement_effects.specs.Supported.{is_elsewhere}
 use Rattle.s7_events.specs.Optional.{◌>>=◌}
 use Rattle.cpu_image.specs.declared.area.ByteArea.TheVariants.{I, Q, M}
+use Rattle.statement_effects.specs.declared.instruction.Width.{Width}
 use Rattle.statement_effects.specs.declared.instruction.Width.TheVariants as widths
+use Rattle.statement_effects.specs.declared.instruction.DataBlockName.{DataBlockName}
+use Rattle.statement_effects.specs.declared.instruction.DataBlockName.TheVariants.{Opened, Instance, Numbered}
+use Rattle.statement_effects.specs.declared.instruction.DataNumber.{DataNumber}
+use Rattle.statement_effects.specs.declared.instruction.DataNumber.TheVariants as numbers
 use Rattle.statement_effects.specs.declared.instruction.BitOperand.{BitOperand}
 use Rattle.statement_effects.specs.declared.instruction.BitOperand.TheVariants as bits
 use Rattle.statement_effects.specs.declared.instruction.ValueOperand.{ValueOperand}
@@ -26,47 +31,16 @@ use Rattle.statement_effects.specs.declared.instruction.Operand.TheVariants as o
 use Rattle.statement_effects.specs.declared.instruction.StatusInstruction.TheVariants as status
 use Rattle.statement_effects.specs.declared.instruction.Instruction.{Instruction}
 use Rattle.statement_effects.specs.declared.instruction.Instruction.TheVariants as groups
-use Rattle.statement_effects.specs.Decoding.{operand_of}
-use Rattle.statement_effects.specs.Reading.{bit_of, move_of, timer_of, timed_of, counter_of, status_check_of, with_word, with_double_word, with_target, with_block, means}
+use Rattle.statement_effects.specs.Decoding.{width_of, operand_of, operand_for}
+use Rattle.statement_effects.specs.Reading.{bit_of, move_of, timer_of, timed_of, counter_of, status_check_of, with_word, with_double_word, with_target, with_block, with_block_and_data, with_data_block, with_instance_block, with_data_number, means}
 
 -- the operand is none of the places that are not supported
 pub record IsHere (s : Statement) : Type 0 where
-  data_block : is_in areas.Data s ≡ false
-  instance : is_in areas.Instance s ≡ false
   input : is_in areas.PeripheralIn s ≡ false
   output : is_in areas.PeripheralOut s ≡ false
-  data_length : is_in areas.DataLength s ≡ false
-  data_number : is_in areas.DataNumber s ≡ false
-  instance_length : is_in areas.InstanceLength s ≡ false
-  instance_number : is_in areas.InstanceNumber s ≡ false
 
 pub is_here : (s : Statement) → is_elsewhere s ≡ false → IsHere s
-is_here s out =
-    let a = is_in areas.Data s in
-    let b = is_in areas.Instance s in
-    let c = is_in areas.PeripheralIn s in
-    let d = is_in areas.PeripheralOut s in
-    let e = is_in areas.DataLength s in
-    let f = is_in areas.DataNumber s in
-    let g = is_in areas.InstanceLength s in
-    let h = is_in areas.InstanceNumber s in
-    let p7 = or_parts ((((((a || b) || c) || d) || e) || f) || g) h out in
-    let p6 = or_parts (((((a || b) || c) || d) || e) || f) g p7.0 in
-    let p5 = or_parts ((((a || b) || c) || d) || e) f p6.0 in
-    let p4 = or_parts (((a || b) || c) || d) e p5.0 in
-    let p3 = or_parts ((a || b) || c) d p4.0 in
-    let p2 = or_parts (a || b) c p3.0 in
-    let p1 = or_parts a b p2.0 in
-    record {
-      data_block = p1.0;
-      instance = p1.1;
-      input = p2.1;
-      output = p3.1;
-      data_length = p4.1;
-      data_number = p5.1;
-      instance_length = p6.1;
-      instance_number = p7.1;
-    }
+is_here s out = let parts = or_parts (is_in areas.PeripheralIn s) (is_in areas.PeripheralOut s) out in record { input = parts.0; output = parts.1 }
 
 -- the operand names this area, and so many bytes of it
 record IsIn (number size bytes : ℕ) (s : Statement) : Type 0 where
@@ -83,9 +57,14 @@ record IsLocal (s : Statement) : Type 0 where
   area : s.area ≡ 4
   fits : nat_le s.value 255 ≡ true
 
--- bytes of memory that are supported lie in the inputs, the outputs, the bit memory or the local data
+-- the operand names a byte of a data block: of the one that is opened as DB, or that of a number, or of the one that is opened as DI
+record IsOfBlock (s : Statement) : Type 0 where
+  block : ((s.area ≡ 5) × ((s.db ≡ 0) ⊎ ((s.db == 0 ≡ false) × (nat_le s.db 255 ≡ true)))) ⊎ (s.area ≡ 6)
+  fits : nat_le s.value 65535 ≡ true
+
+-- bytes of memory lie in the inputs, the outputs, the bit memory, the local data or a data block
 abbrev InMemory : ℕ → Statement → Type 0
-InMemory bytes s = IsIn 1 64 bytes s ⊎ (IsIn 2 64 bytes s ⊎ (IsIn 3 1024 bytes s ⊎ IsLocal s))
+InMemory bytes s = IsIn 1 64 bytes s ⊎ (IsIn 2 64 bytes s ⊎ (IsIn 3 1024 bytes s ⊎ (IsLocal s ⊎ IsOfBlock s)))
 
 in_locals : (locals bytes : ℕ) (s : Statement) → locals ≤ 256 → 0 < bytes → is_within areas.Local locals bytes s ≡ true → IsLocal s
 in_locals locals bytes s small some h =
@@ -93,11 +72,29 @@ in_locals locals bytes s small some h =
     let le : s.value + bytes ≤ locals = leb-true (s.value + bytes) locals l.fits in
     record { area = l.area; fits = le-leb s.value 255 (omega arith) }
 
-no_data : (bytes : ℕ) (s : Statement) → IsHere s → is_of_data bytes s ≡ true → ⊥
-no_data bytes s out h =
+starts_by : (bytes : ℕ) (s : Statement) → 0 < bytes → ends_by 65536 bytes s ≡ true → nat_le s.value 65535 ≡ true
+starts_by bytes s some h = let le : s.value + bytes ≤ 65536 = leb-true (s.value + bytes) 65536 h in le-leb s.value 65535 (omega arith)
+
+in_numbered : (s : Statement) → (s.db == 0 || is_data_number s.db) ≡ true → (s.db ≡ 0) ⊎ ((s.db == 0 ≡ false) × (nat_le s.db 255 ≡ true))
+in_numbered s h =
+    elim (or_cases (s.db == 0) (is_data_number s.db) h) [
+      | inl z ↦ inl (eqb-true s.db 0 z)
+      | inr n ↦
+          let parts = and_parts (nat_le 1 s.db) (nat_le s.db 255) n in
+          let le : 1 ≤ s.db = leb-true 1 s.db parts.0 in
+          inr (ne_eqb s.db 0 (λ e. omega arith), parts.1)
+    ]
+
+in_data : (bytes : ℕ) (s : Statement) → 0 < bytes → is_of_data bytes s ≡ true → IsOfBlock s
+in_data bytes s some h =
     elim (or_cases (is_within areas.Data 65536 bytes s && (s.db == 0 || is_data_number s.db)) (is_within areas.Instance 65536 bytes s && s.db == 0) h) [
-      | inl d ↦ both_ways (is_in areas.Data s) out.data_block (and_parts (is_in areas.Data s) _ (and_parts (is_within areas.Data 65536 bytes s) _ d).0).0
-      | inr n ↦ both_ways (is_in areas.Instance s) out.instance (and_parts (is_in areas.Instance s) _ (and_parts (is_within areas.Instance 65536 bytes s) _ n).0).0
+      | inl d ↦
+          let parts = and_parts (is_within areas.Data 65536 bytes s) (s.db == 0 || is_data_number s.db) d in
+          let here = within areas.Data 65536 bytes s parts.0 in
+          record { block = inl (here.area, in_numbered s parts.1); fits = starts_by bytes s some here.fits }
+      | inr n ↦
+          let here = within areas.Instance 65536 bytes s (and_parts (is_within areas.Instance 65536 bytes s) (s.db == 0) n).0 in
+          record { block = inr here.area; fits = starts_by bytes s some here.fits }
     ]
 
 in_cpu : (locals bytes : ℕ) (s : Statement) → locals ≤ 256 → 0 < bytes → is_of_cpu locals bytes s ≡ true → InMemory bytes s
@@ -111,14 +108,14 @@ in_cpu locals bytes s small some h =
         | inl iq ↦ elim (or_cases i q iq) [ inl x ↦ inl (within areas.Inputs 64 bytes s x) | inr x ↦ inr (inl (within areas.Outputs 64 bytes s x)) ]
         | inr x ↦ inr (inr (inl (within areas.Memory 1024 bytes s x)))
       ]
-      | inr x ↦ inr (inr (inr (in_locals locals bytes s small some x)))
+      | inr x ↦ inr (inr (inr (inl (in_locals locals bytes s small some x))))
     ]
 
-in_memory : (locals bytes : ℕ) (s : Statement) → locals ≤ 256 → 0 < bytes → IsHere s → is_memory locals bytes s ≡ true → InMemory bytes s
-in_memory locals bytes s small some out h =
+in_memory : (locals bytes : ℕ) (s : Statement) → locals ≤ 256 → 0 < bytes → is_memory locals bytes s ≡ true → InMemory bytes s
+in_memory locals bytes s small some h =
     elim (or_cases (is_of_cpu locals bytes s && s.db == 0) (is_of_data bytes s) h) [
       | inl x ↦ in_cpu locals bytes s small some (and_parts (is_of_cpu locals bytes s) (s.db == 0) x).0
-      | inr x ↦ absurd (no_data bytes s out x)
+      | inr x ↦ inr (inr (inr (inr (in_data bytes s some x))))
     ]
 
 below : (v size : ℕ) → nat_le (v + 1) size ≡ true → nat_lt v size ≡ true
@@ -138,10 +135,10 @@ numbered area most s h =
     record { area = eqb-true s.area (area_number area) (and_parts (is_in area s) (s.bit == 0) here.0).0; fits = parts.1 }
 
 -- a bit of memory, where it is allowed
-bit_parts : (locals : ℕ) (s : Statement) → locals ≤ 256 → IsHere s → is_bit locals s ≡ true → (nat_le s.bit 7 ≡ true) × InMemory 1 s
-bit_parts locals s small out h =
+bit_parts : (locals : ℕ) (s : Statement) → locals ≤ 256 → is_bit locals s ≡ true → (nat_le s.bit 7 ≡ true) × InMemory 1 s
+bit_parts locals s small h =
     let parts = and_parts (nat_le s.bit 7) (is_memory locals 1 s) h in
-    (parts.0, in_memory locals 1 s small (omega arith) out parts.1)
+    (parts.0, in_memory locals 1 s small (omega arith) parts.1)
 
 -- a timer or a counter
 either : (s : Statement) → is_timer_or_counter s ≡ true → IsNumber 9 255 s ⊎ IsNumber 10 255 s
@@ -180,23 +177,6 @@ peripheral_in area s h =
     (and_parts (nat_lt 0 (unit_bytes s.bit)) (is_within area 1024 (unit_bytes s.bit) s)
     (and_parts (nat_lt 0 (unit_bytes s.bit) && is_within area 1024 (unit_bytes s.bit) s) (s.db == 0) h).0).1).0
 
-no_about : (s : Statement) → IsHere s → is_about_data s ≡ true → ⊥
-no_about s out h =
-    let a = is_exactly areas.DataLength 0 s in
-    let b = is_exactly areas.DataNumber 0 s in
-    let c = is_exactly areas.InstanceLength 0 s in
-    let d = is_exactly areas.InstanceNumber 0 s in
-    elim (or_cases ((a || b) || c) d h) [
-      | inl x ↦ elim (or_cases (a || b) c x) [
-        | inl y ↦ elim (or_cases a b y) [
-          | inl z ↦ both_ways (is_in areas.DataLength s) out.data_length (exactly_in areas.DataLength 0 s z)
-          | inr z ↦ both_ways (is_in areas.DataNumber s) out.data_number (exactly_in areas.DataNumber 0 s z)
-        ]
-        | inr y ↦ both_ways (is_in areas.InstanceLength s) out.instance_length (exactly_in areas.InstanceLength 0 s y)
-      ]
-      | inr x ↦ both_ways (is_in areas.InstanceNumber s) out.instance_number (exactly_in areas.InstanceNumber 0 s x)
-    ]
-
 -- what an operation means --
 
 -- the operation means an instruction with this operand
@@ -220,7 +200,8 @@ takes_all kinds.ResetBit op = takes op (operands.Bit no_bit) && (takes op (opera
 takes_all kinds.Loaded op =
     takes op (operands.Value no_value)
     && (takes op (operands.Word 0)
-    && (takes op (operands.DoubleWord 0) && (takes op (operands.Timer 0) && (takes op (operands.Counter 0) && takes op operands.StatusWord))))
+    && (takes op (operands.DoubleWord 0)
+    && (takes op (operands.Timer 0) && (takes op (operands.Counter 0) && (takes op operands.StatusWord && takes op (operands.DataNumber numbers.Length))))))
 takes_all kinds.Stored op = takes op (operands.Value no_value) && takes op operands.StatusWord
 takes_all kinds.Coded op = takes op (operands.Timer 0) && takes op (operands.Counter 0)
 takes_all kinds.Addend op = takes op (operands.Word 0) && takes op (operands.DoubleWord 0)
@@ -234,6 +215,9 @@ takes_all kinds.Counter op = takes op (operands.Counter 0)
 takes_all kinds.Function op = takes op (operands.Block (record { kind = Fc; number = 0 }))
 takes_all kinds.FunctionBlock op = takes op (operands.Block (record { kind = Fb; number = 0 }))
 takes_all (kinds.SystemFunction number) op = takes op operands.SystemFunction
+takes_all kinds.DataBlock op = takes op (operands.DataBlock 0)
+takes_all kinds.InstanceBlock op = takes op (operands.InstanceBlock 0)
+takes_all kinds.FunctionBlockWithData op = takes op (operands.BlockWithData (record { kind = Fb; number = 0 }) 0)
 takes_all _ op = false
 
 -- only the form of the operand decides --
@@ -281,50 +265,106 @@ target_any op n h = number_any (with_target op) n h
 block_any : (op : Operation) (callee other : BlockRef) → takes op (operands.Block callee) ≡ true → takes op (operands.Block other) ≡ true
 block_any op callee other h = some_map (λ (f : BlockRef → Instruction). f callee) (λ (f : BlockRef → Instruction). f other) (with_block op) h
 
+data_block_any : (op : Operation) (n : ℕ) → takes op (operands.DataBlock 0) ≡ true → takes op (operands.DataBlock n) ≡ true
+data_block_any op n h = number_any (with_data_block op) n h
+
+instance_block_any : (op : Operation) (n : ℕ) → takes op (operands.InstanceBlock 0) ≡ true → takes op (operands.InstanceBlock n) ≡ true
+instance_block_any op n h = number_any (with_instance_block op) n h
+
+with_data_any : (op : Operation) (callee other : BlockRef) (n m : ℕ) → takes op (operands.BlockWithData callee n) ≡ true → takes op (operands.BlockWithData other m) ≡ true
+with_data_any op callee other n m h =
+    some_map (λ (f : BlockRef → ℕ → Instruction). f callee n) (λ (f : BlockRef → ℕ → Instruction). f other m) (with_block_and_data op) h
+
+data_number_any : (op : Operation) (what other : DataNumber) → takes op (operands.DataNumber what) ≡ true → takes op (operands.DataNumber other) ≡ true
+data_number_any op what other h = some_map (λ (f : DataNumber → Instruction). f what) (λ (f : DataNumber → Instruction). f other) (with_data_number op) h
+
 -- what is read --
 
 -- the operation with the stored operand means an instruction
 abbrev pub Reads : Operation → Statement → Type 0
 Reads op s = is_some (operand_of s >>= means op) ≡ true
 
+data_bit : (op : Operation) (s : Statement) → takes op (operands.Bit no_bit) ≡ true → nat_le s.bit 7 ≡ true → IsOfBlock s → Reads op s
+data_bit op s h bit d =
+    let bit_of_block = λ (block : DataBlockName). bit_any op (bits.Data (record { block = block; at_byte = s.value; bit = s.bit })) h in
+    elim d.block [
+      | inl db ↦ elim db.1 [
+        | inl z ↦ rw (db.0, z, d.fits, bit) (bit_of_block Opened)
+        | inr n ↦ rw (db.0, n.0, n.1, d.fits, bit) (bit_of_block (Numbered s.db))
+      ]
+      | inr di ↦ rw (di, d.fits, bit) (bit_of_block Instance)
+    ]
+
+data_value : (op : Operation) (s : Statement) (width : Width) → takes op (operands.Value no_value) ≡ true → nat_le s.bit 7 ≡ false → width_of s.bit ≡ Some width → IsOfBlock s → Reads op s
+data_value op s width h unit w d =
+    let value_of_block = λ (block : DataBlockName). value_any op (values.Data (record { block = block; at_byte = s.value; width = width })) h in
+    elim d.block [
+      | inl db ↦ elim db.1 [
+        | inl z ↦ rw (db.0, z, d.fits, unit, w) (value_of_block Opened)
+        | inr n ↦ rw (db.0, n.0, n.1, d.fits, unit, w) (value_of_block (Numbered s.db))
+      ]
+      | inr di ↦ rw (di, d.fits, unit, w) (value_of_block Instance)
+    ]
+
 read_bit : (op : Operation) (s : Statement) → takes op (operands.Bit no_bit) ≡ true → nat_le s.bit 7 ≡ true → InMemory 1 s → Reads op s
 read_bit op s h bit (inl i) = rw (i.area, below s.value 64 i.fits, bit) (bit_any op (bits.Area (record { area = I; at_byte = s.value; bit = s.bit })) h)
 read_bit op s h bit (inr (inl q)) = rw (q.area, below s.value 64 q.fits, bit) (bit_any op (bits.Area (record { area = Q; at_byte = s.value; bit = s.bit })) h)
 read_bit op s h bit (inr (inr (inl m))) = rw (m.area, below s.value 1024 m.fits, bit) (bit_any op (bits.Area (record { area = M; at_byte = s.value; bit = s.bit })) h)
-read_bit op s h bit (inr (inr (inr l))) = rw (l.area, l.fits, bit) (bit_any op (bits.Local (record { at_byte = s.value; bit = s.bit })) h)
+read_bit op s h bit (inr (inr (inr (inr d)))) = data_bit op s h bit d
+read_bit op s h bit (inr (inr (inr (inl l)))) = rw (l.area, l.fits, bit) (bit_any op (bits.Local (record { at_byte = s.value; bit = s.bit })) h)
 
-bit : (op : Operation) (locals : ℕ) (s : Statement) → takes op (operands.Bit no_bit) ≡ true → locals ≤ 256 → IsHere s → is_bit locals s ≡ true → Reads op s
-bit op locals s h small out allowed = let parts = bit_parts locals s small out allowed in read_bit op s h parts.0 parts.1
+bit : (op : Operation) (locals : ℕ) (s : Statement) → takes op (operands.Bit no_bit) ≡ true → locals ≤ 256 → is_bit locals s ≡ true → Reads op s
+bit op locals s h small allowed = let parts = bit_parts locals s small allowed in read_bit op s h parts.0 parts.1
 
 read_byte : (op : Operation) (s : Statement) → takes op (operands.Value no_value) ≡ true → s.bit ≡ 8 → InMemory 1 s → Reads op s
 read_byte op s h unit (inl i) = rw (i.area, unit, i.fits) (value_any op (values.Area (record { area = I; at_byte = s.value; width = widths.Byte })) h)
 read_byte op s h unit (inr (inl q)) = rw (q.area, unit, q.fits) (value_any op (values.Area (record { area = Q; at_byte = s.value; width = widths.Byte })) h)
 read_byte op s h unit (inr (inr (inl m))) = rw (m.area, unit, m.fits) (value_any op (values.Area (record { area = M; at_byte = s.value; width = widths.Byte })) h)
-read_byte op s h unit (inr (inr (inr l))) = rw (l.area, l.fits, unit) (value_any op (values.Local (record { at_byte = s.value; width = widths.Byte })) h)
+read_byte op s h unit (inr (inr (inr (inr d)))) = data_value op s widths.Byte h (ap (λ u. nat_le u 7) unit) (ap width_of unit) d
+read_byte op s h unit (inr (inr (inr (inl l)))) = rw (l.area, l.fits, unit) (value_any op (values.Local (record { at_byte = s.value; width = widths.Byte })) h)
 
 read_word : (op : Operation) (s : Statement) → takes op (operands.Value no_value) ≡ true → s.bit ≡ 9 → InMemory 2 s → Reads op s
 read_word op s h unit (inl i) = rw (i.area, unit, i.fits) (value_any op (values.Area (record { area = I; at_byte = s.value; width = widths.Word })) h)
 read_word op s h unit (inr (inl q)) = rw (q.area, unit, q.fits) (value_any op (values.Area (record { area = Q; at_byte = s.value; width = widths.Word })) h)
 read_word op s h unit (inr (inr (inl m))) = rw (m.area, unit, m.fits) (value_any op (values.Area (record { area = M; at_byte = s.value; width = widths.Word })) h)
-read_word op s h unit (inr (inr (inr l))) = rw (l.area, l.fits, unit) (value_any op (values.Local (record { at_byte = s.value; width = widths.Word })) h)
+read_word op s h unit (inr (inr (inr (inr d)))) = data_value op s widths.Word h (ap (λ u. nat_le u 7) unit) (ap width_of unit) d
+read_word op s h unit (inr (inr (inr (inl l)))) = rw (l.area, l.fits, unit) (value_any op (values.Local (record { at_byte = s.value; width = widths.Word })) h)
 
 read_double : (op : Operation) (s : Statement) → takes op (operands.Value no_value) ≡ true → s.bit ≡ 10 → InMemory 4 s → Reads op s
 read_double op s h unit (inl i) = rw (i.area, unit, i.fits) (value_any op (values.Area (record { area = I; at_byte = s.value; width = widths.Double })) h)
 read_double op s h unit (inr (inl q)) = rw (q.area, unit, q.fits) (value_any op (values.Area (record { area = Q; at_byte = s.value; width = widths.Double })) h)
 read_double op s h unit (inr (inr (inl m))) = rw (m.area, unit, m.fits) (value_any op (values.Area (record { area = M; at_byte = s.value; width = widths.Double })) h)
-read_double op s h unit (inr (inr (inr l))) = rw (l.area, l.fits, unit) (value_any op (values.Local (record { at_byte = s.value; width = widths.Double })) h)
+read_double op s h unit (inr (inr (inr (inr d)))) = data_value op s widths.Double h (ap (λ u. nat_le u 7) unit) (ap width_of unit) d
+read_double op s h unit (inr (inr (inr (inl l)))) = rw (l.area, l.fits, unit) (value_any op (values.Local (record { at_byte = s.value; width = widths.Double })) h)
 
-value : (op : Operation) (locals : ℕ) (s : Statement) → takes op (operands.Value no_value) ≡ true → locals ≤ 256 → IsHere s → is_value locals s ≡ true → Reads op s
-value op locals s h small out allowed =
+value : (op : Operation) (locals : ℕ) (s : Statement) → takes op (operands.Value no_value) ≡ true → locals ≤ 256 → is_value locals s ≡ true → Reads op s
+value op locals s h small allowed =
     let parts = and_parts (nat_lt 0 (unit_bytes s.bit)) (is_memory locals (unit_bytes s.bit) s) allowed in
     let some : 0 < unit_bytes s.bit = ltb-true 0 (unit_bytes s.bit) parts.0 in
-    let here : InMemory (unit_bytes s.bit) s = in_memory locals (unit_bytes s.bit) s small some out parts.1 in
+    let here : InMemory (unit_bytes s.bit) s = in_memory locals (unit_bytes s.bit) s small some parts.1 in
     elim (units s.bit parts.0) [
       | inl e ↦ read_byte op s h e (subst (λ u. InMemory (unit_bytes u) s) e here)
       | inr r ↦ elim r [
         | inl e ↦ read_word op s h e (subst (λ u. InMemory (unit_bytes u) s) e here)
         | inr e ↦ read_double op s h e (subst (λ u. InMemory (unit_bytes u) s) e here)
       ]
+    ]
+
+data_number : (op : Operation) (s : Statement) → takes op (operands.DataNumber numbers.Length) ≡ true → is_about_data s ≡ true → Reads op s
+data_number op s t h =
+    let a = is_exactly areas.DataLength 0 s in
+    let b = is_exactly areas.DataNumber 0 s in
+    let c = is_exactly areas.InstanceLength 0 s in
+    let d = is_exactly areas.InstanceNumber 0 s in
+    elim (or_cases ((a || b) || c) d h) [
+      | inl x ↦ elim (or_cases (a || b) c x) [
+        | inl y ↦ elim (or_cases a b y) [
+          | inl z ↦ rw (exactly_named areas.DataLength 0 s z) t
+          | inr z ↦ rw (exactly_named areas.DataNumber 0 s z) (data_number_any op numbers.Length numbers.Number t)
+        ]
+        | inr y ↦ rw (exactly_named areas.InstanceLength 0 s y) (data_number_any op numbers.Length numbers.InstanceLength t)
+      ]
+      | inr x ↦ rw (exactly_named areas.InstanceNumber 0 s x) (data_number_any op numbers.Length numbers.InstanceNumber t)
     ]
 
 timer : (op : Operation) (s : Statement) → takes op (operands.Timer 0) ≡ true → IsNumber 9 255 s → Reads op s
@@ -383,7 +423,8 @@ loaded op locals s t small out h =
     let t1 = and_parts (takes op (operands.Word 0)) _ t0.1 in
     let t2 = and_parts (takes op (operands.DoubleWord 0)) _ t1.1 in
     let t3 = and_parts (takes op (operands.Timer 0)) _ t2.1 in
-    let t4 = and_parts (takes op (operands.Counter 0)) (takes op operands.StatusWord) t3.1 in
+    let t4 = and_parts (takes op (operands.Counter 0)) _ t3.1 in
+    let t5 = and_parts (takes op operands.StatusWord) (takes op (operands.DataNumber numbers.Length)) t4.1 in
     let a = is_value locals s in
     let b = is_peripheral areas.PeripheralIn s in
     let c = is_constant s in
@@ -394,16 +435,16 @@ loaded op locals s t small out h =
         | inl w ↦ elim (or_cases ((a || b) || c) d w) [
           | inl x ↦ elim (or_cases (a || b) c x) [
             | inl y ↦ elim (or_cases a b y) [
-              | inl z ↦ value op locals s t0.0 small out z
+              | inl z ↦ value op locals s t0.0 small z
               | inr z ↦ absurd (both_ways (is_in areas.PeripheralIn s) out.input (peripheral_in areas.PeripheralIn s z))
             ]
             | inr y ↦ constant op s t1.0 t2.0 y
           ]
           | inr x ↦ timer_or_counter op s t3.0 t4.0 x
         ]
-        | inr w ↦ status_word op s t4.1 (exactly_named areas.StatusWord 0 s w)
+        | inr w ↦ status_word op s t5.0 (exactly_named areas.StatusWord 0 s w)
       ]
-      | inr v ↦ absurd (no_about s out v)
+      | inr v ↦ data_number op s t5.1 v
     ]
 
 stored : (op : Operation) (locals : ℕ) (s : Statement) → takes_all kinds.Stored op ≡ true → locals ≤ 256 → IsHere s → allows kinds.Stored locals s ≡ true → Reads op s
@@ -411,41 +452,60 @@ stored op locals s t small out h =
     let parts = and_parts (takes op (operands.Value no_value)) (takes op operands.StatusWord) t in
     elim (or_cases (is_value locals s || is_peripheral areas.PeripheralOut s) (is_exactly areas.StatusWord 0 s) h) [
       | inl x ↦ elim (or_cases (is_value locals s) (is_peripheral areas.PeripheralOut s) x) [
-        | inl y ↦ value op locals s parts.0 small out y
+        | inl y ↦ value op locals s parts.0 small y
         | inr y ↦ absurd (both_ways (is_in areas.PeripheralOut s) out.output (peripheral_in areas.PeripheralOut s y))
       ]
       | inr x ↦ status_word op s parts.1 (exactly_named areas.StatusWord 0 s x)
     ]
 
-checked : (op : Operation) (locals : ℕ) (s : Statement) → takes_all kinds.CheckedBit op ≡ true → locals ≤ 256 → IsHere s → allows kinds.CheckedBit locals s ≡ true → Reads op s
-checked op locals s t small out h =
+checked : (op : Operation) (locals : ℕ) (s : Statement) → takes_all kinds.CheckedBit op ≡ true → locals ≤ 256 → allows kinds.CheckedBit locals s ≡ true → Reads op s
+checked op locals s t small h =
     let t0 = and_parts (takes op (operands.Bit no_bit)) _ t in
     let t1 = and_parts (takes op (operands.Timer 0)) _ t0.1 in
     let t2 = and_parts (takes op (operands.Counter 0)) (takes op (operands.Status 0)) t1.1 in
     elim (or_cases (is_bit locals s || is_timer_or_counter s) (is_up_to areas.Status 9 s) h) [
       | inl x ↦ elim (or_cases (is_bit locals s) (is_timer_or_counter s) x) [
-        | inl b ↦ bit op locals s t0.0 small out b
+        | inl b ↦ bit op locals s t0.0 small b
         | inr y ↦ timer_or_counter op s t1.0 t2.0 y
       ]
       | inr z ↦ status_bit op s t2.1 (numbered areas.Status 9 s z)
     ]
 
+-- the operation with the stored operand of its kind means an instruction
+abbrev pub ReadsAs : OperandKind → Operation → Statement → Type 0
+ReadsAs kind op s = is_some (operand_for kind s >>= means op) ≡ true
+
+-- the number of a data block that is opened
+opening : (area : OperandArea) (s : Statement) → (is_number area s && is_data_number s.value) ≡ true → IsNumber (area_number area) 255 s
+opening area s h =
+    let parts = and_parts (is_number area s) (is_data_number s.value) h in
+    record { area = named area s parts.0; fits = (and_parts (nat_le 1 s.value) (nat_le s.value 255) parts.1).1 }
+
+with_data : (op : Operation) (s : Statement) → takes_all kinds.FunctionBlockWithData op ≡ true → allows kinds.FunctionBlockWithData 0 s ≡ true
+    → ReadsAs kinds.FunctionBlockWithData op s
+with_data op s t h =
+    let p2 = and_parts ((is_in areas.FunctionBlock s && s.bit == 0) && nat_le s.value 255) (is_data_number s.db) h in
+    let p1 = and_parts (is_in areas.FunctionBlock s && s.bit == 0) (nat_le s.value 255) p2.0 in
+    let area = eqb-true s.area 17 (and_parts (is_in areas.FunctionBlock s) (s.bit == 0) p1.0).0 in
+    let number = (and_parts (nat_le 1 s.db) (nat_le s.db 255) p2.1).1 in
+    rw (area, p1.1, number) (with_data_any op (record { kind = Fb; number = 0 }) (record { kind = Fb; number = s.value }) 0 s.db t)
+
 -- an operation that takes each form of a kind means an instruction with each operand of the kind
-pub reads : (kind : OperandKind) (op : Operation) (locals : ℕ) (s : Statement) → takes_all kind op ≡ true → locals ≤ 256 → IsHere s → allows kind locals s ≡ true → Reads op s
+pub reads : (kind : OperandKind) (op : Operation) (locals : ℕ) (s : Statement) → takes_all kind op ≡ true → locals ≤ 256 → IsHere s → allows kind locals s ≡ true → ReadsAs kind op s
 reads kinds.Nothing op locals s t small out h = alone op s t (exactly_named areas.Nothing 0 s h)
-reads kinds.CheckedBit op locals s t small out h = checked op locals s t small out h
-reads kinds.WrittenBit op locals s t small out h = bit op locals s t small out h
+reads kinds.CheckedBit op locals s t small out h = checked op locals s t small h
+reads kinds.WrittenBit op locals s t small out h = bit op locals s t small h
 reads kinds.SetBit op locals s t small out h =
     let parts = and_parts (takes op (operands.Bit no_bit)) (takes op (operands.Counter 0)) t in
     elim (or_cases (is_bit locals s) (is_up_to areas.Counter 255 s) h) [
-      | inl b ↦ bit op locals s parts.0 small out b
+      | inl b ↦ bit op locals s parts.0 small b
       | inr c ↦ counter op s parts.1 (numbered areas.Counter 255 s c)
     ]
 reads kinds.ResetBit op locals s t small out h =
     let t0 = and_parts (takes op (operands.Bit no_bit)) _ t in
     let t1 = and_parts (takes op (operands.Timer 0)) (takes op (operands.Counter 0)) t0.1 in
     elim (or_cases (is_bit locals s) (is_timer_or_counter s) h) [
-      | inl b ↦ bit op locals s t0.0 small out b
+      | inl b ↦ bit op locals s t0.0 small b
       | inr y ↦ timer_or_counter op s t1.0 t1.1 y
     ]
 reads kinds.Loaded op locals s t small out h = loaded op locals s t small out h
@@ -477,9 +537,9 @@ reads kinds.Mask op locals s t small out h =
 reads kinds.Target op locals s t small out h = target op s t (named areas.Target s h)
 reads kinds.Timer op locals s t small out h = timer op s t (numbered areas.Timer 255 s h)
 reads kinds.Counter op locals s t small out h = counter op s t (numbered areas.Counter 255 s h)
-reads kinds.DataBlock op locals s t small out h = absurd cc
-reads kinds.InstanceBlock op locals s t small out h = absurd cc
+reads kinds.DataBlock op locals s t small out h = let n = opening areas.Data s h in rw (n.area, n.fits) (data_block_any op s.value t)
+reads kinds.InstanceBlock op locals s t small out h = let n = opening areas.Instance s h in rw (n.area, n.fits) (instance_block_any op s.value t)
 reads kinds.Function op locals s t small out h = function op s t (numbered areas.Function 255 s h)
 reads kinds.FunctionBlock op locals s t small out h = function_block op s t (numbered areas.FunctionBlock 255 s h)
-reads kinds.FunctionBlockWithData op locals s t small out h = absurd cc
+reads kinds.FunctionBlockWithData op locals s t small out h = with_data op s t h
 reads (kinds.SystemFunction number) op locals s t small out h = system_function op s t (exactly_named areas.SystemFunction number s h)

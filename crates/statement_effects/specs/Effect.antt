@@ -15,6 +15,7 @@ use Rattle.statement_effects.specs.NumberEffect.{effect_number, effect_word}
 use Rattle.statement_effects.specs.JumpEffect.{effect_jump, effect_call_when_set, effect_end, effect_end_when_set}
 use Rattle.statement_effects.specs.TimerEffect.{effect_timer}
 use Rattle.statement_effects.specs.CounterEffect.{effect_counter}
+use Rattle.statement_effects.specs.DataEffect.{effect_data}
 use Rattle.statement_effects.specs.Reading.{instruction_of}
 
 -- the next statement follows over the new memory; a statement that fails changes nothing
@@ -43,7 +44,7 @@ effect (groups.Jump i) memory = led memory (effect_jump i memory.registers)
 effect (groups.Timer op n) memory = (effect_timer op n memory, Next)
 effect (groups.Timed op n) memory = (memory, AskNow)
 effect (groups.Counter op n) memory = onward memory (effect_counter op n memory)
-effect (groups.Data i) memory = (memory, Next)
+effect (groups.Data i) memory = onward memory (effect_data i memory)
 effect (groups.Call callee) memory = (memory, Call callee)
 effect (groups.CallInstance callee number) memory = (memory, CallInstance callee number)
 effect (groups.CallWhenSet callee) memory = led memory (effect_call_when_set callee memory.registers)

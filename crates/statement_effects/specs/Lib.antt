@@ -1,6 +1,7 @@
 pub mod Areas
 pub mod BitEffect
 pub mod CounterEffect
+pub mod DataEffect
 pub mod Decoding
 pub mod Effect
 pub mod JumpEffect

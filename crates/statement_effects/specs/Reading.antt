@@ -32,11 +32,13 @@ use Rattle.statement_effects.specs.declared.instruction.TimedOperation.{TimedOpe
 use Rattle.statement_effects.specs.declared.instruction.TimedOperation.TheVariants as timed_ops
 use Rattle.statement_effects.specs.declared.instruction.CounterOperation.{CounterOperation}
 use Rattle.statement_effects.specs.declared.instruction.CounterOperation.TheVariants as counter_ops
+use Rattle.statement_effects.specs.declared.instruction.DataNumber.{DataNumber}
+use Rattle.statement_effects.specs.declared.instruction.DataInstruction.TheVariants as data_blocks
 use Rattle.statement_effects.specs.declared.instruction.Instruction.{Instruction}
 use Rattle.statement_effects.specs.declared.instruction.Instruction.TheVariants as groups
 use Rattle.statement_effects.specs.declared.instruction.Operand.{Operand}
 use Rattle.statement_effects.specs.declared.instruction.Operand.TheVariants as operands
-use Rattle.statement_effects.specs.Decoding.{operand_of}
+use Rattle.statement_effects.specs.Decoding.{operand_for}
 
 -- operations with an operand --
 
@@ -119,7 +121,7 @@ with_target operations.JumpList = Some (λ target. groups.Jump (jumps.List targe
 with_target operations.Loop = Some (λ target. groups.Jump (jumps.Loop target))
 with_target _ = None
 
--- with a block that is called; an FB with its data block is not called yet
+-- with a block that is called
 abbrev pub with_block : Operation → Option (BlockRef → Instruction)
 with_block (operations.Block blocks.CallFunction) = Some groups.Call
 with_block (operations.Block blocks.UnconditionalCallFunction) = Some groups.Call
@@ -134,7 +136,27 @@ system_function_of (operations.Block blocks.CallRetrigger) = Some groups.Retrigg
 system_function_of (operations.Block blocks.CallStop) = Some groups.Stop
 system_function_of _ = None
 
--- alone; of the statements on blocks the ends only
+-- with a function block that is called and the number of its data block
+abbrev pub with_block_and_data : Operation → Option (BlockRef → ℕ → Instruction)
+with_block_and_data (operations.Block blocks.CallFunctionBlock) = Some groups.CallInstance
+with_block_and_data _ = None
+
+-- with a data block that is opened as DB
+abbrev pub with_data_block : Operation → Option (ℕ → Instruction)
+with_data_block (operations.Block blocks.OpenData) = Some (λ number. groups.Data (data_blocks.Open number))
+with_data_block _ = None
+
+-- with a data block that is opened as DI
+abbrev pub with_instance_block : Operation → Option (ℕ → Instruction)
+with_instance_block (operations.Block blocks.OpenInstance) = Some (λ number. groups.Data (data_blocks.OpenInstance number))
+with_instance_block _ = None
+
+-- with the length or the number of an opened data block
+abbrev pub with_data_number : Operation → Option (DataNumber → Instruction)
+with_data_number operations.Load = Some (λ what. groups.Data (data_blocks.Load what))
+with_data_number _ = None
+
+-- alone; of the statements on blocks CDB and the ends
 abbrev pub alone : Operation → Option Instruction
 alone operations.AndBeforeOr = Some (groups.Status status.OrAlone)
 alone (operations.Open how) = Some (groups.Group (brackets.Open how))
@@ -148,6 +170,7 @@ alone (operations.ToBcd size) = Some (groups.Number (numbers.ToBcd (is_wide size
 alone (operations.Compare how size) = Some (groups.Number (numbers.Compare how (is_wide size)))
 alone (operations.WordLogic op size) = Some (logic op size None)
 alone (operations.Shift op) = Some (groups.Word (words.Shift op None))
+alone (operations.Block blocks.ExchangeData) = Some (groups.Data data_blocks.Exchange)
 alone (operations.Block blocks.End) = Some groups.End
 alone (operations.Block blocks.UnconditionalEnd) = Some groups.End
 alone (operations.Block blocks.ConditionalEnd) = Some groups.EndWhenSet
@@ -168,11 +191,15 @@ means op (operands.Status n) = option_map (λ how. groups.Status (status.Check h
 means op operands.StatusWord = status_word_of op
 means op (operands.Block callee) = option_map (λ instruction. instruction callee) (with_block op)
 means op operands.SystemFunction = system_function_of op
+means op (operands.BlockWithData callee number) = option_map (λ instruction. instruction callee number) (with_block_and_data op)
+means op (operands.DataBlock number) = option_map (λ instruction. instruction number) (with_data_block op)
+means op (operands.InstanceBlock number) = option_map (λ instruction. instruction number) (with_instance_block op)
+means op (operands.DataNumber what) = option_map (λ instruction. instruction what) (with_data_number op)
 
 abbrev pub read_row : Option InstructionRow → Statement → Option Instruction
 read_row None s = None
-read_row (Some row) s = operand_of s >>= means row.operation
+read_row (Some row) s = operand_for row.operand s >>= means row.operation
 
--- what a stored statement means, if it is one that is played
+-- what a stored statement means, if it is one that is supported
 abbrev pub instruction_of : Statement → Option Instruction
 instruction_of s = read_row (row_of s.op) s

@@ -1,37 +1,18 @@
 -- Which statements are supported, and what is said of them.
-use Rattle.std.specs.Prelude.{◌≡◌, ◌≤◌, ℕ, ◌&&◌, ◌||◌, Bool, true, false, not, Option, Some, None, is_some}
+use Rattle.std.specs.Prelude.{◌≡◌, ◌≤◌, ℕ, ◌||◌, Bool, true, not, is_some}
 use Rattle.s7_base.specs.declared.statement.Statement.{Statement}
-use Rattle.instruction_set.specs.declared.table.InstructionRow.{InstructionRow}
-use Rattle.instruction_set.specs.declared.operation.Operation.{Operation}
-use Rattle.instruction_set.specs.declared.operation.Operation.TheVariants.{Block}
-use Rattle.instruction_set.specs.declared.operation.BlockOperation.TheVariants.{OpenData, OpenInstance, ExchangeData, CallFunctionBlock}
 use Rattle.instruction_set.specs.declared.operands.OperandArea.TheVariants as areas
-use Rattle.instruction_set.specs.Rows.{row_of}
 use Rattle.s7_base.specs.Operands.{is_in}
 use Rattle.s7_base.specs.Statements.{is_statement}
 use Rattle.statement_effects.specs.Reading.{instruction_of}
 
--- the operand is of a data block or of the peripherals, or is the length or number of an opened data block
+-- the operand is of the peripherals
 abbrev pub is_elsewhere : Statement → Bool
-is_elsewhere s =
-    is_in areas.Data s || is_in areas.Instance s || is_in areas.PeripheralIn s || is_in areas.PeripheralOut s
-    || is_in areas.DataLength s || is_in areas.DataNumber s || is_in areas.InstanceLength s || is_in areas.InstanceNumber s
-
--- an operation that is not supported yet: it opens or exchanges data blocks, or calls a function block with its data block
-abbrev pub is_unsupported : Operation → Bool
-is_unsupported (Block OpenData) = true
-is_unsupported (Block OpenInstance) = true
-is_unsupported (Block ExchangeData) = true
-is_unsupported (Block CallFunctionBlock) = true
-is_unsupported _ = false
-
-abbrev pub is_unsupported_row : Option InstructionRow → Bool
-is_unsupported_row None = false
-is_unsupported_row (Some row) = is_unsupported row.operation
+is_elsewhere s = is_in areas.PeripheralIn s || is_in areas.PeripheralOut s
 
 -- the statement is one that is supported
 abbrev pub is_supported : Statement → Bool
-is_supported s = not (is_elsewhere s) && not (is_unsupported_row (row_of s.op))
+is_supported s = not (is_elsewhere s)
 
 -- each statement of the language that is supported means an instruction; a block has 256 bytes of local data at most
 abbrev pub SupportedMeans : Type 0

@@ -1,17 +1,19 @@
 //! The operands of stored statements.
 ghost use Rattle.std.specs.Prelude.{◌≡◌, ◌≤◌, IfSome};
 ghost use Rattle.s7_base.specs.Operands.{is_in};
+ghost use Rattle.instruction_set.specs.declared.operands.OperandArea.TheVariants as areas;
 ghost use Rattle.level_stack.specs.Values.{IsWidth};
 ghost use Rattle.statement_effects.specs.Areas.{size_of, bytes_in};
-ghost use Rattle.statement_effects.specs.Decoding.{width_of, bit_operand, value_operand, byte_operand, local_operand, up_to, block_operand, other_operand, operand_of};
+ghost use Rattle.statement_effects.specs.Decoding.{width_of, bit_operand, value_operand, byte_operand, local_operand, up_to, data_block_of, data_operand, named_data_operand, block_operand, data_number_of, other_operand, operand_of, opened_operand, block_with_data, operand_for};
 ghost use Rattle.statement_effects.specs.Placed.{IsOperand};
 ghost use Rattle.statement_effects.specs.declared.instruction.Operand.TheVariants as operands;
 
 use crate::instruction::{
-    BitOperand, BitPlace, LocalBit, LocalValue, Operand, ValueOperand, ValuePlace, Width,
+    BitOperand, BitPlace, DataBit, DataBlockName, DataNumber, DataValue, LocalBit, LocalValue,
+    Operand, ValueOperand, ValuePlace, Width,
 };
 use cpu_image::ByteArea;
-use instruction_set::OperandArea;
+use instruction_set::{OperandArea, OperandKind};
 use s7_base::{BlockRef, CodeKind, Statement};
 
 /// How many bytes an area has in any case.
@@ -116,6 +118,49 @@ fn local_operand(s: &Statement) -> Option<Operand>
     Some(Operand::Bit(BitOperand::Local(place)))
 }
 
+/// The data block that an operand of area DB names.
+fn data_block_of(s: &Statement) -> Option<DataBlockName>
+    ensures { result ≡ data_block_of s.now }
+{
+    if s.db == 0 {
+        return Some(DataBlockName::Opened);
+    }
+    let number = u8::try_from(s.db).ok()?;
+    Some(DataBlockName::Numbered(number))
+}
+
+/// A bit or a value of a data block.
+fn data_operand(s: &Statement, block: DataBlockName) -> Option<Operand>
+    ensures operand { result ≡ data_operand s.now block }
+    ensures placed { IfSome result IsOperand }
+{
+    let at_byte = u16::try_from(s.value).ok()?;
+    if s.bit > 7 {
+        let width = width_of(s.bit)?;
+        let place = DataValue {
+            block,
+            at_byte,
+            width,
+        };
+        return Some(Operand::Value(ValueOperand::Data(place)));
+    }
+    let place = DataBit {
+        block,
+        at_byte,
+        bit: s.bit,
+    };
+    Some(Operand::Bit(BitOperand::Data(place)))
+}
+
+/// A bit or a value of the data block that is opened as DB, or that the operand names.
+fn named_data_operand(s: &Statement) -> Option<Operand>
+    ensures operand { result ≡ named_data_operand s.now }
+    ensures placed { IfSome result IsOperand }
+{
+    let block = data_block_of(s)?;
+    data_operand(s, block)
+}
+
 fn timer_operand(s: &Statement) -> Option<Operand>
     ensures operand { result ≡ up_to 255 operands.Timer s.now }
     ensures placed { IfSome result IsOperand }
@@ -159,6 +204,24 @@ fn block_operand(kind: CodeKind, s: &Statement) -> Option<Operand>
     Some(Operand::Block(BlockRef { kind, number }))
 }
 
+/// The length or the number of an opened data block.
+fn data_number_of(s: &Statement) -> Option<Operand>
+    ensures operand { result ≡ data_number_of s.now }
+    ensures placed { IfSome result IsOperand }
+{
+    if is_in(s, OperandArea::DataLength) {
+        Some(Operand::DataNumber(DataNumber::Length))
+    } else if is_in(s, OperandArea::DataNumber) {
+        Some(Operand::DataNumber(DataNumber::Number))
+    } else if is_in(s, OperandArea::InstanceLength) {
+        Some(Operand::DataNumber(DataNumber::InstanceLength))
+    } else if is_in(s, OperandArea::InstanceNumber) {
+        Some(Operand::DataNumber(DataNumber::InstanceNumber))
+    } else {
+        None
+    }
+}
+
 /// An operand that is none of the areas of bytes.
 fn other_operand(s: &Statement) -> Option<Operand>
     ensures operand { result ≡ other_operand s.now }
@@ -187,12 +250,12 @@ fn other_operand(s: &Statement) -> Option<Operand>
     } else if is_in(s, OperandArea::SystemFunction) {
         Some(Operand::SystemFunction)
     } else {
-        None
+        data_number_of(s)
     }
 }
 
-/// The operand of a statement, if it is one that is supported.
-pub(crate) fn operand_of(s: &Statement) -> Option<Operand>
+/// The operand of a statement, as its area says, if it is one that is supported.
+fn operand_of(s: &Statement) -> Option<Operand>
     ensures operand { result ≡ operand_of s.now }
     ensures placed { IfSome result IsOperand }
 {
@@ -204,7 +267,62 @@ pub(crate) fn operand_of(s: &Statement) -> Option<Operand>
         byte_operand(ByteArea::M, s)
     } else if is_in(s, OperandArea::Local) {
         local_operand(s)
+    } else if is_in(s, OperandArea::Data) {
+        named_data_operand(s)
+    } else if is_in(s, OperandArea::Instance) {
+        data_operand(s, DataBlockName::Instance)
     } else {
         other_operand(s)
+    }
+}
+
+/// The data block that is opened as DB.
+fn opened_block(s: &Statement) -> Option<Operand>
+    ensures operand { result ≡ opened_operand areas.Data operands.DataBlock s.now }
+    ensures placed { IfSome result IsOperand }
+{
+    if !is_in(s, OperandArea::Data) {
+        return None;
+    }
+    let number = u8::try_from(s.value).ok()?;
+    Some(Operand::DataBlock(number))
+}
+
+/// The data block that is opened as DI.
+fn opened_instance(s: &Statement) -> Option<Operand>
+    ensures operand { result ≡ opened_operand areas.Instance operands.InstanceBlock s.now }
+    ensures placed { IfSome result IsOperand }
+{
+    if !is_in(s, OperandArea::Instance) {
+        return None;
+    }
+    let number = u8::try_from(s.value).ok()?;
+    Some(Operand::InstanceBlock(number))
+}
+
+/// A function block that is called with a data block.
+fn block_with_data(s: &Statement) -> Option<Operand>
+    ensures operand { result ≡ block_with_data s.now }
+    ensures placed { IfSome result IsOperand }
+{
+    if !is_in(s, OperandArea::FunctionBlock) {
+        return None;
+    }
+    let number = u8::try_from(s.value).ok()?;
+    let data = u8::try_from(s.db).ok()?;
+    let kind = CodeKind::Fb;
+    Some(Operand::BlockWithData(BlockRef { kind, number }, data))
+}
+
+/// The operand of an operation that takes this kind, if it is one that is supported.
+pub(crate) fn operand_for(kind: OperandKind, s: &Statement) -> Option<Operand>
+    ensures operand { result ≡ operand_for kind s.now }
+    ensures placed { IfSome result IsOperand }
+{
+    match kind {
+        OperandKind::DataBlock => opened_block(s),
+        OperandKind::InstanceBlock => opened_instance(s),
+        OperandKind::FunctionBlockWithData => block_with_data(s),
+        _ => operand_of(s),
     }
 }

@@ -41,7 +41,7 @@ impl Memory {
             Instruction::Timer(op, n) => self.execute_timer(op, n),
             Instruction::Timed(_, _) => return Flow::AskNow,
             Instruction::Counter(op, n) => return flow_of(self.execute_counter(op, n)),
-            Instruction::Data(_) => {}
+            Instruction::Data(i) => return flow_of(self.execute_data(i)),
             Instruction::Call(callee) => return Flow::Call(callee),
             Instruction::CallInstance(callee, number) => {
                 return Flow::CallInstance(callee, number);

@@ -116,6 +116,14 @@ pub enum Operand {
     Block(BlockRef),
     /// A system function. The operation says which.
     SystemFunction,
+    /// A function block that is called, with the number of its data block.
+    BlockWithData(BlockRef, u8),
+    /// The data block of this number, to open as DB.
+    DataBlock(u8),
+    /// The data block of this number, to open as DI.
+    InstanceBlock(u8),
+    /// The length or the number of an opened data block.
+    DataNumber(DataNumber),
 }
 
 /// Statements on a bit.

@@ -5,6 +5,7 @@ mod areas;
 mod bits;
 mod clocks;
 mod counting;
+mod data;
 mod decoded;
 mod decoding;
 mod execute;
@@ -23,8 +24,9 @@ pub use areas::{DataRegisters, Memory, Registers};
 pub use cpu_image::ByteArea;
 pub use decoded::{Decoded, DecodedBlock};
 pub use instruction::{
-    AccuInstruction, BitInstruction, BitOperand, BitPlace, CounterOperation, DirectInstruction,
-    Flow, GroupInstruction, Instruction, JumpInstruction, LocalBit, LocalValue, MoveInstruction,
+    AccuInstruction, BitInstruction, BitOperand, BitPlace, CounterOperation, DataBit,
+    DataBlockName, DataInstruction, DataNumber, DataValue, DirectInstruction, Flow,
+    GroupInstruction, Instruction, JumpInstruction, LocalBit, LocalValue, MoveInstruction,
     NumberInstruction, Operand, StatusInstruction, TimedOperation, TimerOperation, ValueOperand,
     ValuePlace, Width, WordInstruction,
 };

@@ -4,11 +4,11 @@ ghost use Rattle.statement_effects.specs.Reading.{bit_of, status_check_of, move_
 ghost use Rattle.statement_effects.specs.Placed.{IsOperand, HasOperand};
 ghost use Rattle.statement_effects.specs.declared.instruction.Operand.TheVariants as operands;
 
-use crate::decoding::operand_of;
+use crate::decoding::operand_for;
 use crate::instruction::{
-    AccuInstruction, BitInstruction, CounterOperation, DirectInstruction, GroupInstruction,
-    Instruction, JumpInstruction, MoveInstruction, NumberInstruction, Operand, StatusInstruction,
-    TimedOperation, TimerOperation, WordInstruction,
+    AccuInstruction, BitInstruction, CounterOperation, DataInstruction, DataNumber,
+    DirectInstruction, GroupInstruction, Instruction, JumpInstruction, MoveInstruction,
+    NumberInstruction, Operand, StatusInstruction, TimedOperation, TimerOperation, WordInstruction,
 };
 use instruction_set::{
     BitWrite, BlockOperation, Check, Operation, Word, WordSize, instruction_row,
@@ -161,7 +161,7 @@ fn with_target(op: Operation, target: u32) -> Option<Instruction>
     }
 }
 
-/// Alone; of the statements on blocks the ends only.
+/// Alone; of the statements on blocks `CDB` and the ends.
 fn alone(op: Operation) -> Option<Instruction>
     ensures means { result ≡ alone op }
     ensures placed { IfSome result HasOperand }
@@ -187,6 +187,9 @@ fn alone(op: Operation) -> Option<Instruction>
         }
         Operation::WordLogic(op, size) => Some(logic(op, size, None)),
         Operation::Shift(op) => Some(Instruction::Word(WordInstruction::Shift(op, None))),
+        Operation::Block(BlockOperation::ExchangeData) => {
+            Some(Instruction::Data(DataInstruction::Exchange))
+        }
         Operation::Block(BlockOperation::End | BlockOperation::UnconditionalEnd) => {
             Some(Instruction::End)
         }
@@ -237,6 +240,56 @@ fn system_function_of(op: Operation) -> Option<Instruction>
     }
 }
 
+/// With a function block that is called and the number of its data block.
+fn with_block_and_data(op: Operation, callee: BlockRef, number: u8) -> Option<Instruction>
+    ensures means { result ≡ means op (operands.BlockWithData callee number) }
+    ensures placed { IfSome result HasOperand }
+{
+    match op {
+        Operation::Block(BlockOperation::CallFunctionBlock) => {
+            Some(Instruction::CallInstance(callee, number))
+        }
+        _ => None,
+    }
+}
+
+/// With a data block that is opened as DB.
+fn with_data_block(op: Operation, number: u8) -> Option<Instruction>
+    ensures means { result ≡ means op (operands.DataBlock number) }
+    ensures placed { IfSome result HasOperand }
+{
+    match op {
+        Operation::Block(BlockOperation::OpenData) => {
+            Some(Instruction::Data(DataInstruction::Open(number)))
+        }
+        _ => None,
+    }
+}
+
+/// With a data block that is opened as DI.
+fn with_instance_block(op: Operation, number: u8) -> Option<Instruction>
+    ensures means { result ≡ means op (operands.InstanceBlock number) }
+    ensures placed { IfSome result HasOperand }
+{
+    match op {
+        Operation::Block(BlockOperation::OpenInstance) => {
+            Some(Instruction::Data(DataInstruction::OpenInstance(number)))
+        }
+        _ => None,
+    }
+}
+
+/// With the length or the number of an opened data block.
+fn with_data_number(op: Operation, what: DataNumber) -> Option<Instruction>
+    ensures means { result ≡ means op (operands.DataNumber what) }
+    ensures placed { IfSome result HasOperand }
+{
+    match op {
+        Operation::Load => Some(Instruction::Data(DataInstruction::Load(what))),
+        _ => None,
+    }
+}
+
 /// What an operation with an operand means.
 fn means(op: Operation, operand: Operand) -> Option<Instruction>
     requires { IsOperand operand }
@@ -268,6 +321,10 @@ fn means(op: Operation, operand: Operand) -> Option<Instruction>
         Operand::StatusWord => status_word_of(op),
         Operand::Block(callee) => with_block(op, callee),
         Operand::SystemFunction => system_function_of(op),
+        Operand::BlockWithData(callee, number) => with_block_and_data(op, callee, number),
+        Operand::DataBlock(number) => with_data_block(op, number),
+        Operand::InstanceBlock(number) => with_instance_block(op, number),
+        Operand::DataNumber(what) => with_data_number(op, what),
     }
 }
 
@@ -278,6 +335,6 @@ pub fn instruction_of(s: &Statement) -> Option<Instruction>
     ensures placed { IfSome result HasOperand }
 {
     let row = instruction_row(s.op)?;
-    let operand = operand_of(s)?;
+    let operand = operand_for(row.operand, s)?;
     means(row.operation, operand)
 }
