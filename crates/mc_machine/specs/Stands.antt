@@ -12,12 +12,13 @@ use Rattle.s7_base.specs.declared.blocks.BlockRef.{BlockRef}
 use Rattle.s7_base.specs.Blocks.{Program}
 use Rattle.level_stack.specs.Levels.{LevelState}
 use Rattle.statement_effects.specs.State.{Memory}
-use Rattle.mc_machine.specs.Places.{Level, Mode, Place, AtOutputs, AtInputs, AtCycle, AtStop, Over, At, Frame, Note}
+use Rattle.statement_effects.specs.Levels.{with_start}
+use Rattle.mc_machine.specs.Places.{Level, Mode, Place, AtOutputs, AtInputs, AtCycle, AtStop, Over, At, Fresh, Frame, Note}
 use Rattle.timers.specs.Bytes as timer_form
 use Rattle.counters.specs.Bytes as counter_form
 use Rattle.statement_effects.specs.Areas.{with_registers}
 use Rattle.statement_effects.specs.CounterEffect.{counter_at}
-use Rattle.mc_machine.specs.Meaning.{Cycles, State, End, Waits, Stopped, Rest, Move, Goes, Calls, Reaction, Again, Completes, Turn, Asks, Moves, Halts, Leaves, Ends, stop_request, at_block_end, restored, resume, body, takes, is_dated, stops_cpu, turn_of, never, std}
+use Rattle.mc_machine.specs.Meaning.{Cycles, State, End, Waits, Stopped, Rest, Move, Goes, Calls, Begins, Reaction, Again, Completes, Turn, Asks, Moves, Halts, Leaves, Ends, organisation_block, start_information, stop_request, at_block_end, restored, resume, body, takes, is_dated, stops_cpu, turn_of, never, std}
 
 -- where a machine is: its program, its place, the frames under it, what the statements see, the statements completed
 -- since the last answer, the moment of that answer, the cycles, and the diagnostic entries that it keeps
@@ -63,6 +64,7 @@ pub record StandsFor (program : Program) (given : List Answer) (c : Config) : Ty
 abbrev pub IsMoved : Move → Config → ℕ → ℕ → Option DiagCode → Config → Type 0
 IsMoved (Goes memory place) c since at note c' = c' ≡ record { program = c.program; place = place; frames = c.frames; memory = memory; since = since; at = at; cycles = c.cycles; diag = with_newest c.diag at note }
 IsMoved (Calls memory place frame) c since at note c' = c' ≡ record { program = c.program; place = place; frames = c.frames ++ frame ∷ []; memory = memory; since = since; at = at; cycles = c.cycles; diag = with_newest c.diag at note }
+IsMoved (Begins memory number level cause frame) c since at note c' = c' ≡ record { program = c.program; place = At (organisation_block number) 0 level Fresh; frames = c.frames ++ frame ∷ []; memory = with_start memory (start_information c.cycles at number level cause); since = since; at = at; cycles = c.cycles; diag = with_newest c.diag at note }
 
 -- the machine is where a turn leads that moves or halts, with so many statements completed
 abbrev pub IsTurned : Turn → Config → ℕ → ℕ → Config → Type 0

@@ -9,13 +9,14 @@ ghost use Rattle.mc_machine.specs.Places.{AtInputs, Over, At, Fresh};
 ghost use Rattle.mc_machine.specs.EngineView.{level_in, mode_of, place_of, frame_of, config_of, running_of, decoded_codes, gone_to, IsCode, IsIndexed, AreIndexed, AreFound, IsStored};
 ghost use Rattle.s7_events.specs.declared.entry.Ask.{Ask};
 
+mod starts;
+
 use crate::codes::{decoded_at, end_of, instruction_in};
 use crate::index::CodeIndex;
 use crate::levels::{
-    call_registers, enter_block, enter_error_ob, enter_main, error_ob, error_registers, ob,
-    restored,
+    call_registers, enter_block, enter_error_ob, enter_main, error_ob, error_registers, restored,
 };
-use crate::places::{BlockSpot, Frame, Level, Mode, Note, Returns, Spot};
+use crate::places::{BlockSpot, Cause, Frame, Level, Mode, Note, Returns, Spot};
 use arrayvec::ArrayVec;
 use s7_base::{Answer, Ask, BlockRef, Blocks, CodeKind, DiagCode, Loss, Request, Side, StopCode};
 use statement_effects::{DecodedBlock, Flow, Instruction, Memory, Registers};
@@ -445,7 +446,7 @@ impl Engine {
             priority: 1,
             in_error: false,
         };
-        self.begin(ob(1), level, frame);
+        self.begin_organisation_block(1, level, Cause::CycleBegan, frame);
     }
 
     /// The machine waits at a request.
@@ -593,7 +594,8 @@ impl Engine {
                     in_error: true,
                 };
                 self.memory.set_registers(error_registers(&registers));
-                self.begin(ob(error_ob(error)), level, frame);
+                let cause = Cause::StatementFailed(error);
+                self.begin_organisation_block(error_ob(error), level, cause, frame);
                 self.note(DiagCode::Error(error));
                 None
             }

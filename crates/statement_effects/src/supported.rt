@@ -2,8 +2,6 @@
 ghost use Rattle.std.specs.Prelude.{◌≡◌};
 ghost use Rattle.statement_effects.specs.Supported.{is_elsewhere, is_unsupported, is_unsupported_row, is_supported};
 ghost use Rattle.instruction_set.specs.Rows.{row_of};
-ghost use Rattle.instruction_set.specs.declared.operands.OperandArea.TheVariants as areas;
-ghost use Rattle.s7_base.specs.Operands.{is_in};
 
 use crate::decoding::is_in;
 use instruction_set::{BlockOperation, OperandArea, Operation, instruction_row};
@@ -48,13 +46,6 @@ fn has_unsupported_operation(statement: &Statement) -> bool
         Some(row) => is_unsupported(row.operation),
         None => false,
     }
-}
-
-/// Returns whether the operand of a statement is of local data.
-pub fn is_local(statement: &Statement) -> bool
-    ensures { result ≡ is_in areas.Local statement.now }
-{
-    is_in(statement, OperandArea::Local)
 }
 
 /// Returns whether a statement is one that is supported: its operand is none of a data block or of the peripherals, and it opens no data block, and calls no function block with its data block and no system function.
