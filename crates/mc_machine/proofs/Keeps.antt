@@ -8,10 +8,10 @@ use Rattle.s7_events.specs.declared.diagnostics.DiagCode.{DiagCode}
 use Rattle.s7_base.specs.Blocks.{Program}
 use Rattle.statement_effects.specs.State.{Memory}
 use Rattle.mc_machine.specs.Places.{Place, AtOutputs, AtStop, Over, At, Fresh, Frame, Note}
-use Rattle.mc_machine.specs.Meaning.{State, Waits, Stopped, Undefined, Rest, Move, Goes, Calls, Begins, Reaction, Again, Completes, Turn, Asks, Moves, Halts, Leaves, Ends, with_note, organisation_block, start_information, stop_request, at_block_end, resume, moves, reacts, cycles_after, took, does, body, turn_of, takes, is_dated, takes_at, answered, never, start, start_notes, start_cycles, std}
+use Rattle.mc_machine.specs.Meaning.{State, Waits, Stopped, Undefined, Rest, Move, Goes, Calls, Begins, Reaction, Again, Completes, Turn, Asks, Moves, Halts, Leaves, Ends, with_note, organisation_block, start_information, stop_request, at_block_end, resume, moves, reacts, cycles_after, took, does, body, turn_of, takes, is_dated, takes_at, answered, never, starts, start_notes, std}
 use Rattle.statement_effects.specs.Areas.{start_memory}
 use Rattle.statement_effects.specs.Levels.{with_start}
-use Rattle.mc_machine.specs.Stands.{Config, newest, with_newest, state_of, rest_of, todo, StandsFor, IsMoved, Reacts, Follows, AsksAt, Keeps, turns_left}
+use Rattle.mc_machine.specs.Stands.{Config, newest, with_newest, state_of, rest_of, todo, start_config, StandsFor, IsMoved, Reacts, Follows, AsksAt, Keeps, turns_left}
 use Rattle.mc_machine.proofs.Enough.{Counts, body_turn}
 
 rest_push : (rest : Rest) (frames : List Frame) (frame : Frame) → rest_of rest (frames ++ frame ∷ []) ≡ resume body frame (rest_of rest frames)
@@ -214,10 +214,10 @@ stands_stops program c given e stands =
     ap (std program) (sym (append-nil given)) ∙ stands.goes_on [] ∙ turns c stands.notes (length given) [] Ends (ap (turn_of c.program c.since c.memory) e)
 
 -- at the start
-pub stands_start : (program : Program) (frames : List Frame) (diag : List Note) → frames ≡ [] → diag ≡ start_notes → StandsFor program [] (record { program = program; place = AtOutputs; frames = frames; memory = start_memory; since = 0; at = 0; cycles = start_cycles; diag = diag })
-stands_start program frames diag f d = record {
+pub stands_start : (program : Program) (c : Config) → IsMoved (starts program) (start_config program) 0 0 None c → StandsFor program [] c
+stands_start program c e = record {
   notes = start_notes;
-  keeps_newest = d;
-  moment = refl;
-  goes_on = λ more. ap (λ fs. body AtOutputs (rest_of never fs) (start program) more) (sym f);
+  keeps_newest = moved_diag (start_config program) c 0 0 None (starts program) e;
+  moment = moved_at (start_config program) c 0 0 None (starts program) e;
+  goes_on = λ more. moved (start_config program) c start_notes 0 more start_memory 0 0 None (starts program) refl e;
 }

@@ -493,9 +493,31 @@ start_cycles = record { began_at = 0; last_length = 0; first_over = false }
 abbrev pub start : Program → State
 start program = record { program = program; memory = start_memory; since = 0; cycles = start_cycles; notes = start_notes; taken = 0 }
 
+-- OB100 runs on a level of its own, and its end leads to the first cycle
+abbrev pub startup_level : Level
+startup_level = record { priority = priority_of 100; in_error = false }
+
+abbrev pub startup_frame : Frame
+startup_frame = record { place = AtOutputs; kept = Whole clear_registers }
+
+abbrev pub startup_entered : Memory → Code → Result Memory StopCode
+startup_entered memory code = block_entered (with_level memory (priority_of 100)) (organisation_block 100) code
+
+abbrev pub startup_begun : Memory → Result Memory StopCode → Move
+startup_begun memory (Ok inside) = Begins inside 100 startup_level CpuStarted startup_frame
+startup_begun memory (Err code) = Goes memory (AtStop code)
+
+abbrev pub startup_if : Memory → Option Code → Move
+startup_if memory None = Goes memory AtOutputs
+startup_if memory (Some code) = startup_begun memory (startup_entered memory code)
+
+-- where a program starts: in OB100 where it is loaded, and else at the first cycle
+abbrev pub starts : Program → Move
+starts program = startup_if start_memory (code_of program Ob 100)
+
 -- what the standard CPU does with a program and answers
 abbrev pub std : Program → List Answer → End
-std program given = body AtOutputs never (start program) given
+std program given = moves body never (start program) given (starts program)
 
 -- the request at which it waits, if it does
 abbrev pub next_of : End → Option Request

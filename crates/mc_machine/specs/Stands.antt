@@ -16,9 +16,9 @@ use Rattle.statement_effects.specs.Levels.{with_start}
 use Rattle.mc_machine.specs.Places.{Level, Mode, Place, AtOutputs, AtInputs, AtCycle, AtStop, Over, At, Fresh, Frame, Note}
 use Rattle.timers.specs.Bytes as timer_form
 use Rattle.counters.specs.Bytes as counter_form
-use Rattle.statement_effects.specs.Areas.{with_registers}
+use Rattle.statement_effects.specs.Areas.{with_registers, start_memory}
 use Rattle.statement_effects.specs.CounterEffect.{counter_at}
-use Rattle.mc_machine.specs.Meaning.{Cycles, State, End, Waits, Stopped, Rest, Move, Goes, Calls, Begins, Reaction, Again, Completes, Turn, Asks, Moves, Halts, Leaves, Ends, organisation_block, start_information, stop_request, at_block_end, restored, resume, body, takes, is_dated, stops_cpu, turn_of, never, std}
+use Rattle.mc_machine.specs.Meaning.{Cycles, State, End, Waits, Stopped, Rest, Move, Goes, Calls, Begins, Reaction, Again, Completes, Turn, Asks, Moves, Halts, Leaves, Ends, organisation_block, start_information, stop_request, at_block_end, restored, resume, body, takes, is_dated, stops_cpu, turn_of, never, start_notes, start_cycles, std}
 
 -- where a machine is: its program, its place, the frames under it, what the statements see, the statements completed
 -- since the last answer, the moment of that answer, the cycles, and the diagnostic entries that it keeps
@@ -43,6 +43,10 @@ with_newest notes moment (Some code) = newest (notes ++ record { moment = moment
 -- the state of the CPU, with all its diagnostic entries and the number of answers taken
 abbrev pub state_of : Config → List Note → ℕ → State
 state_of c notes taken = record { program = c.program; memory = c.memory; since = c.since; cycles = c.cycles; notes = notes; taken = taken }
+
+-- a machine before the CPU starts
+abbrev pub start_config : Program → Config
+start_config program = record { program = program; place = AtOutputs; frames = []; memory = start_memory; since = 0; at = 0; cycles = start_cycles; diag = start_notes }
 
 -- what is left of the frames: the last one first, and at last what follows them all
 abbrev pub rest_of : Rest → List Frame → Rest

@@ -4,7 +4,7 @@ ghost use Rattle.s7_base.specs.Blocks.{Program};
 ghost use Rattle.s7_events.specs.declared.entry.Answer.{Answer};
 ghost use Rattle.s7_base.specs.declared.blocks.BlockRef.{BlockRef};
 ghost use Rattle.mc_machine.specs.Meaning.{error_registers, fails, begun, calls, turn_of, flows, jump_among, cycle_length, cycles_after, answered, takes, stops_cpu, begins_main, lost_note, again_mode, again, resumed, timed_at, Leaves, Waits, std, request_of, stop_request};
-ghost use Rattle.mc_machine.specs.Stands.{Running, state_of, newest, with_newest, StandsFor, IsMoved, IsTurned, halts_with, Reacts, Follows, register_head, register_bytes, IsHigh, AreStacked, AreBegun, IsSound, IsValid, IsAskedAt, AsksAt, Keeps, IsTaken, IsDated, IsAsked, GoesOn};
+ghost use Rattle.mc_machine.specs.Stands.{Running, state_of, newest, with_newest, start_config, StandsFor, IsMoved, IsTurned, halts_with, Reacts, Follows, register_head, register_bytes, IsHigh, AreStacked, AreBegun, IsSound, IsValid, IsAskedAt, AsksAt, Keeps, IsTaken, IsDated, IsAsked, GoesOn};
 ghost use Rattle.mc_machine.specs.Places.{AtInputs, Over, At, Fresh};
 ghost use Rattle.mc_machine.specs.EngineView.{level_in, mode_of, place_of, frame_of, config_of, running_of, decoded_codes, gone_to, IsCode, IsIndexed, AreIndexed, AreFound, IsStored};
 ghost use Rattle.s7_events.specs.declared.entry.Ask.{Ask};
@@ -139,13 +139,26 @@ fn again_mode(ask: &Ask, mode: Mode) -> Mode
 }
 
 impl Engine {
-    /// The CPU at the start of its first cycle.
+    /// The CPU at its start: in OB100 where it is loaded, and else at its first cycle.
+    #[tactic(auto, using(crate::proofs::Keeps::stands_start))]
     pub fn start(program: Blocks, decoded: Vec<DecodedBlock>) -> Engine
         requires decoded { decoded.items ≡ decoded_codes program.codes }
         ensures valid { IsValid (running_of result) }
         ensures stored { IsStored result }
         ensures going { (config_of result).place ≢ Over }
         ensures stands { StandsFor program [] (config_of result) }
+    {
+        let mut engine = Engine::before_start(program, decoded);
+        engine.start_up();
+        engine
+    }
+
+    /// The CPU before it starts.
+    fn before_start(program: Blocks, decoded: Vec<DecodedBlock>) -> Engine
+        requires decoded { decoded.items ≡ decoded_codes program.codes }
+        ensures config { config_of result ≡ start_config program }
+        ensures stored { IsStored result }
+        ensures waits { result.waits ≡ None }
     {
         let mut diag = ArrayVec::new();
         diag.push(Note {

@@ -3,14 +3,14 @@ ghost use Rattle.std.specs.Prelude.{◌≡◌, ◌<◌, ◌≤◌, [], length, O
 ghost use Rattle.s7_base.specs.declared.blocks.CodeKind.{CodeKind};
 ghost use Rattle.s7_base.specs.Blocks.{code_of};
 ghost use Rattle.level_stack.specs.Levels.{running_locals};
-ghost use Rattle.mc_machine.specs.Meaning.{local_bytes_of, local_bytes_in, stop_of, block_entered, main_entered, error_ob, no_error_ob, error_entered, error_registers, call_registers, restored, start_byte, start_value, start_moment};
+ghost use Rattle.mc_machine.specs.Meaning.{local_bytes_of, local_bytes_in, stop_of, block_entered, startup_entered, main_entered, error_ob, no_error_ob, error_entered, error_registers, call_registers, restored, start_byte, start_value, start_moment};
 ghost use Rattle.mc_machine.specs.Stands.{AreBegun, IsDeeper};
 ghost use Rattle.mc_machine.specs.EngineView.{level_in, kept_of, AreFound};
 
 use crate::index::CodeIndex;
 use crate::places::{Cause, Frame, Level, Returns};
 use bit_unit::BitUnit;
-use s7_base::{BlockRef, Blocks, CodeBlock, CodeKind, StopCode};
+use s7_base::{BlockRef, Blocks, CodeBlock, CodeKind, StopCode, priority};
 use statement_effects::{LevelFault, Memory, Registers};
 
 /// The local bytes of a code block.
@@ -48,6 +48,26 @@ pub fn enter_block(memory: &mut Memory, block: BlockRef, code: &CodeBlock) -> Re
     ensures same { OnErr result (memory.new ≡ memory.old) }
 {
     match memory.begin_block(block, local_bytes(code)) {
+        Ok(()) => Ok(()),
+        Err(fault) => Err(stop_of(fault)),
+    }
+}
+
+/// Begins OB100 on a level of its own.
+///
+/// # Errors
+/// The stop where it has no local data. Nothing changes.
+#[tactic(auto, using(crate::proofs::Begun::main_begins, crate::proofs::Begun::first_has))]
+pub fn enter_startup(memory: &mut Memory, code: &CodeBlock) -> Result<(), StopCode>
+    requires idle { memory.old.levels ≡ [] }
+    requires enough { 20 ≤ local_bytes_of code.now }
+    ensures ok { OnOk result (startup_entered memory.old code.now ≡ Ok memory.new) }
+    ensures begun { OnOk result (AreBegun 1 memory.new.levels) }
+    ensures local { OnOk result (20 ≤ length (running_locals memory.new.levels)) }
+    ensures err { IfErr result (λ stop. startup_entered memory.old code.now ≡ Err stop) }
+    ensures same { OnErr result (memory.new ≡ memory.old) }
+{
+    match memory.begin_level(priority(100), ob(100), local_bytes(code)) {
         Ok(()) => Ok(()),
         Err(fault) => Err(stop_of(fault)),
     }

@@ -1,16 +1,18 @@
 //! How organisation blocks begin, with their start information.
-ghost use Rattle.std.specs.Prelude.{◌≡◌, ◌<◌, ◌≤◌, ◌+◌, ◌++◌, ◌∷◌, [], length};
+ghost use Rattle.std.specs.Prelude.{◌≡◌, ◌≢◌, None, ◌<◌, ◌≤◌, ◌+◌, ◌++◌, ◌∷◌, [], length};
 ghost use Rattle.level_stack.specs.Levels.{running_locals};
 ghost use Rattle.statement_effects.specs.Levels.{with_start};
-ghost use Rattle.mc_machine.specs.Meaning.{organisation_block, start_information};
-ghost use Rattle.mc_machine.specs.Stands.{IsHigh, AreStacked, AreBegun, IsSound};
-ghost use Rattle.mc_machine.specs.Places.{At, Fresh};
+ghost use Rattle.mc_machine.specs.Meaning.{organisation_block, start_information, starts};
+ghost use Rattle.mc_machine.specs.Stands.{IsHigh, AreStacked, AreBegun, IsSound, IsMoved, start_config};
+ghost use Rattle.mc_machine.specs.Places.{At, Fresh, Over};
 ghost use Rattle.mc_machine.specs.EngineView.{level_in, frame_of, config_of, decoded_codes, IsIndexed, AreIndexed, AreFound, IsStored};
 
 use super::Engine;
-use crate::levels::{ob, start_byte, start_moment, start_value};
-use crate::places::{Cause, Frame, Level};
+use crate::levels::{enter_startup, ob, start_byte, start_moment, start_value};
+use crate::places::{Cause, Frame, Level, Returns, Spot};
 use level_stack::start_info;
+use s7_base::priority;
+use statement_effects::Registers;
 
 impl Engine {
     /// What an organisation block that begins on a level is told.
@@ -53,5 +55,35 @@ impl Engine {
         let information = self.start_information(number, level, cause);
         self.memory.write_start(&information);
         self.begin(ob(number), level, frame);
+    }
+
+    /// OB100 begins where it is loaded, or the CPU asks to stop; where it is not loaded, the first cycle comes.
+    #[tactic(auto, using(crate::proofs::Begun::ob_has))]
+    pub(super) fn start_up(&mut self)
+        requires here { config_of self.old ≡ start_config self.old.program }
+        requires stored { IsStored self.old }
+        ensures moved { IsMoved (starts self.old.program) (config_of self.old) 0 0 None (config_of self.new) }
+        ensures sound { IsSound (config_of self.new) }
+        ensures stored { IsStored self.new }
+        ensures going { (config_of self.new).place ≢ Over }
+        ensures waits { self.new.waits ≡ self.old.waits }
+    {
+        let Some(code) = self.index.code(&self.program, ob(100)) else {
+            return;
+        };
+        if let Err(stop) = enter_startup(&mut self.memory, code) {
+            self.spot = Spot::AtStop(stop);
+            return;
+        }
+        let frame = Frame {
+            spot: Spot::AtOutputs,
+            kept: Registers::clear(),
+            returns: Returns::Whole,
+        };
+        let level = Level {
+            priority: priority(100),
+            in_error: false,
+        };
+        self.begin_organisation_block(100, level, Cause::CpuStarted, frame);
     }
 }
