@@ -60,6 +60,12 @@ written at width value level =
     λ frame. record frame { locals = overwritten frame.locals at (bytes_high_first width value) } in
     record level { frames = with_last write level.frames }
 
+-- the level after the start information was written into the first local bytes of the block that runs
+abbrev pub started : List ℕ → LevelState → LevelState
+started bytes level =
+    let write : FrameState → FrameState = λ frame. record frame { locals = overwritten frame.locals 0 bytes } in
+    record level { frames = with_last write level.frames }
+
 -- the level that runs --
 
 abbrev pub frames_of : Option LevelState → List FrameState

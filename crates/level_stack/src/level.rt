@@ -2,9 +2,9 @@
 ghost use Rattle.std.specs.Prelude.{◌≡◌, ◌+◌, ◌*◌, ◌^◌, ◌<◌, ◌≤◌, [], length, replicate, ◌↔◌, OnOk, OnErr, Ok, Err};
 ghost use Rattle.std.specs.Prelude.{slice_range};
 ghost use Rattle.level_stack.specs.Values.{IsWidth, value_of};
-ghost use Rattle.level_stack.specs.Levels.{LevelState, entered, left, written, local_count, top_locals};
+ghost use Rattle.level_stack.specs.Levels.{LevelState, entered, left, written, started, local_count, top_locals};
 
-use crate::value::{put_value_at, value_in};
+use crate::value::{put_start_at, put_value_at, value_in};
 use arrayvec::ArrayVec;
 use s7_base::{BlockRef, CodeKind};
 use std::marker::Model;
@@ -173,5 +173,14 @@ impl Level {
     {
         let from = self.locals.len() - self.top().len() + usize::from(at_byte);
         put_value_at(self.locals.as_mut_slice(), from, width, value);
+    }
+
+    /// Writes the start information into the first local bytes of the block that runs.
+    pub(crate) fn write_start(&mut self, bytes: &[u8; 20])
+        requires { 20 ≤ length (top_locals self.old.frames) }
+        ensures { self.new ≡ started bytes.now self.old }
+    {
+        let from = self.locals.len() - self.top().len();
+        put_start_at(self.locals.as_mut_slice(), from, bytes);
     }
 }

@@ -2,7 +2,7 @@
 ghost use Rattle.std.specs.Prelude.{◌≡◌, ◌+◌, ◌*◌, ◌^◌, ◌<◌, ◌≤◌, [], ◌∷◌, ◌++◌, List, length, ◌↔◌, OnOk, OnErr, Ok, Err, IfSome};
 ghost use Rattle.std.specs.Prelude.{slice_range};
 ghost use Rattle.level_stack.specs.Values.{IsWidth, value_of};
-ghost use Rattle.level_stack.specs.Levels.{LevelState, last_of, without_last, with_last, entered, left, ended, written, local_count, running_frames, running_locals, running_prio};
+ghost use Rattle.level_stack.specs.Levels.{LevelState, last_of, without_last, with_last, entered, left, ended, written, started, block_counts, local_count, running_frames, running_locals, running_prio};
 
 use crate::level::{Level, LevelFault};
 use arrayvec::ArrayVec;
@@ -151,5 +151,16 @@ impl Levels {
         let top = self.levels.len() - 1;
         let level = &mut self.levels.as_mut_slice()[top];
         level.write(at_byte, width, value);
+    }
+
+    /// Writes the start information of an organisation block into the first local bytes of the block that runs.
+    pub fn write_start(&mut self, bytes: &[u8; 20])
+        requires { 20 ≤ length (running_locals self.old) }
+        ensures started { self.new ≡ with_last (started bytes.now) self.old }
+        ensures blocks { block_counts self.new ≡ block_counts self.old }
+    {
+        let top = self.levels.len() - 1;
+        let level = &mut self.levels.as_mut_slice()[top];
+        level.write_start(bytes);
     }
 }

@@ -28,6 +28,14 @@ fn put_value(bytes: &mut [u8], value: u32)
     bytes.copy_from_slice(&all[4 - width..]);
 }
 
+/// Writes the start information into these bytes, from byte `from` on.
+pub(crate) fn put_start_at(bytes: &mut [u8], from: usize, start: &[u8; 20])
+    requires { from + 20 ≤ length bytes.old }
+    ensures { bytes.new ≡ overwritten bytes.old from start.now }
+{
+    bytes[from..from + 20].copy_from_slice(start);
+}
+
 /// Writes a value into `width` of these bytes, from byte `from` on.
 pub(crate) fn put_value_at(bytes: &mut [u8], from: usize, width: u8, value: u32)
     requires width { IsWidth width }

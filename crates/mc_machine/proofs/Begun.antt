@@ -1,12 +1,17 @@
 -- As many blocks have begun as there are frames.
-use Rattle.std.proofs.Common.{◌≡◌, ℕ, suc, ◌+◌, ◌-◌, ◌<◌, ◌≤◌, List, [], ◌∷◌, ◌++◌, length, take, refl, sym, ap, ◌∙◌, subst, arith, length-append}
-use Rattle.std.specs.Prelude.{map, ◌==◌, if◌then◌else◌}
-use Rattle.std.proofs.lemmas.Bool.{cond_both, eqb-true, eqb-false}
+use Rattle.std.proofs.Common.{◌≡◌, ℕ, suc, ◌+◌, ◌-◌, ◌<◌, ◌≤◌, nat_lt, true, Some, Result, Ok, Err, List, [], ◌∷◌, ◌++◌, length, take, refl, sym, ap, ◌∙◌, subst, arith, length-append}
+use Rattle.std.specs.Prelude.{map, ◌==◌, ◌&&◌, if◌then◌else◌, OnOk}
+use Rattle.std.proofs.lemmas.Bool.{cond_both, eqb-true, eqb-false, ltb-false, and_parts}
 use Rattle.std.proofs.lemmas.List.{length-take-le}
 use Rattle.s7_base.specs.declared.blocks.BlockRef.{BlockRef}
-use Rattle.level_stack.specs.Levels.{LevelState, with_last, entered, left, ended, without_empty, without_last, running_frames, block_counts}
+use Rattle.s7_base.specs.declared.blocks.CodeKind.{CodeKind}
+use Rattle.s7_base.specs.declared.blocks.CodeKind.TheVariants.{Ob, Fb, Fc}
+use Rattle.s7_base.specs.Blocks.{Code, Program, same_kind, code_named, code_of}
+use Rattle.level_stack.specs.Levels.{LevelState, with_last, entered, left, ended, without_empty, without_last, running_frames, running_locals, block_counts}
+use Rattle.level_stack.proofs.Running.{begins_with}
 use Rattle.statement_effects.specs.State.{Memory}
 use Rattle.statement_effects.specs.Levels.{with_level, with_block}
+use Rattle.mc_machine.specs.Meaning.{local_bytes_for, local_bytes_of}
 use Rattle.mc_machine.specs.Stands.{AreBegun, IsDeeper}
 
 -- under a frame there is a level, on which a block runs
@@ -48,6 +53,48 @@ pub main_begins : (before after : Memory) (priority : ℕ) (block : BlockRef) (b
 main_begins before after priority block bytes none e =
     subst (λ (m : Memory). AreBegun 1 m.levels) (sym e)
     (subst (λ (levels : List LevelState). AreBegun 1 (with_last (entered block bytes) (levels ++ record { prio = priority; frames = [] } ∷ []))) (sym none) (refl, omega arith))
+
+-- local bytes of a block that begins --
+
+pub block_has : (before after : Memory) (block : BlockRef) (bytes : ℕ) → 0 < length before.levels → after ≡ with_block before block bytes → length (running_locals after.levels) ≡ bytes
+block_has before after block bytes some e =
+    ap (λ (m : Memory). length (running_locals m.levels)) e ∙ begins_with before.levels block bytes some
+
+pub first_has : (before after : Memory) (priority : ℕ) (block : BlockRef) (bytes : ℕ) → 20 ≤ bytes → after ≡ with_block (with_level before priority) block bytes → 20 ≤ length (running_locals after.levels)
+first_has before after priority block bytes enough e =
+    let first : LevelState = record { prio = priority; frames = [] } in
+    let longer = length-append before.levels (first ∷ []) in
+    let same = block_has (with_level before priority) after block bytes (omega arith) e in
+    omega arith
+
+at_least : (kind : CodeKind) (temp : ℕ) → same_kind kind Ob ≡ true → 20 ≤ local_bytes_for kind temp
+at_least Ob temp is =
+    cond_both (nat_lt temp 20) _ _ (λ n. 20 ≤ n) (λ lt. omega arith) (λ le. let h = ltb-false temp 20 le in omega arith)
+at_least Fb temp is = absurd cc
+at_least Fc temp is = absurd cc
+
+ob_bytes : (code : Code) → same_kind code.kind Ob ≡ true → 20 ≤ local_bytes_of code
+ob_bytes code is = at_least code.kind code.temp is
+
+-- an organisation block has the bytes of its start information
+ob_named : (codes : List Code) (number : ℕ) (code : Code) → code_named codes Ob number ≡ Some code → 20 ≤ local_bytes_of code
+ob_named [] number code e = absurd cc
+ob_named (x ∷ codes) number code e =
+    cond_both (same_kind x.kind Ob && x.number == number) _ _ (λ o. o ≡ Some code → 20 ≤ local_bytes_of code)
+    (λ is here. let same : x ≡ code = cc in subst (λ (k : Code). 20 ≤ local_bytes_of k) same (ob_bytes x (and_parts _ _ is).0))
+    (λ is rest. ob_named codes number code rest)
+    e
+
+pub ob_has : (program : Program) (number : ℕ) (code : Code) → Some code ≡ code_of program Ob number → 20 ≤ local_bytes_of code
+ob_has program number code e = ob_named program.codes number code (sym e)
+
+-- where an organisation block begins
+pub ob_begins_with : {A E : Type 0} (r : Result A E) (n : ℕ) (program : Program) (block : BlockRef) (number : ℕ) (code : Code) → block ≡ record { kind = Ob; number = number } → Some code ≡ code_of program block.kind block.number → OnOk r (n ≡ local_bytes_of code) → OnOk r (20 ≤ n)
+ob_begins_with (Ok x) n program block number code is here e =
+    let same : Some code ≡ code_of program Ob number = here ∙ ap (λ (b : BlockRef). code_of program b.kind b.number) is in
+    let enough = ob_has program number code same in
+    omega arith
+ob_begins_with (Err x) n program block number code is here e = e
 
 -- a block ends
 pub one_less : (n : ℕ) (levels : List LevelState) → AreBegun (n + 1) levels → AreBegun n (ended levels)

@@ -1,5 +1,5 @@
 -- How deep the recursion is allowed to go makes no difference once it is deep enough.
-use Rattle.std.proofs.Common.{◌≡◌, ℕ, zero, suc, ◌<◌, ◌≤◌, nat_lt, ◌+◌, List, [], ◌∷◌, Option, Some, None, Result, Ok, Err, refl, ap, arith}
+use Rattle.std.proofs.Common.{◌≡◌, ℕ, zero, suc, ◌<◌, ◌≤◌, nat_lt, ◌+◌, ◌-◌, List, [], ◌∷◌, Option, Some, None, Result, Ok, Err, refl, ap, arith}
 use Rattle.std.specs.Prelude.{slice_get, if◌then◌else◌}
 use Rattle.std.proofs.lemmas.Bool.{cond_both, ltb-true}
 use Rattle.s7_base.specs.declared.statement.Statement.{Statement}
@@ -13,8 +13,9 @@ use Rattle.mc_machine.specs.Places.{Level, Fresh, Ticking, Timing, Retriggering,
 use Rattle.statement_effects.specs.declared.instruction.Flow.{Flow}
 use Rattle.statement_effects.specs.declared.instruction.Flow.TheVariants as flow
 use Rattle.statement_effects.specs.Areas.{with_registers}
+use Rattle.statement_effects.specs.Levels.{with_start}
 use Rattle.statement_effects.specs.Effect.{effect_of}
-use Rattle.mc_machine.specs.Meaning.{State, Undefined, Rest, Meaning, Move, Goes, Calls, Reaction, Again, Completes, Turn, Asks, Moves, Halts, Leaves, Ends, statements_of, block_entered, error_entered, failed, begun, called, flows, stop_request, takes_at, answered, at_block_end, restored, resume, noting, moves, reacts, completed, took, asking, does, runs, turn_of, turn, body_within, left, body}
+use Rattle.mc_machine.specs.Meaning.{State, Undefined, Rest, Meaning, Move, Goes, Calls, Begins, Reaction, Again, Completes, Turn, Asks, Moves, Halts, Leaves, Ends, statements_of, block_entered, error_entered, organisation_block, start_information, failed, begun, called, flows, stop_request, takes_at, answered, at_block_end, restored, resume, noting, moves, reacts, completed, took, asking, does, runs, turn_of, turn, body_within, left, body}
 
 -- two continuations agree wherever no more is left than this
 pub record Agree (rest rest' : Rest) (bound : ℕ) : Type 0 where
@@ -32,6 +33,9 @@ moves_same m m' rest rest' b s a lt same agree (Goes memory p) =
     same.at p rest rest' (record s { memory = memory }) a lt (less_agrees rest rest' b (left s a) (omega arith) agree)
 moves_same m m' rest rest' b s a lt same agree (Calls memory p f) =
     same.at p (resume m f rest) (resume m' f rest') (record s { memory = memory }) a lt
+    (record { at = λ s2 a2 h. same.at f.place rest rest' (record s2 { memory = with_registers s2.memory (restored s2.memory.registers f.kept) }) a2 (omega arith) (less_agrees rest rest' b (left s2 a2) (omega arith) agree) })
+moves_same m m' rest rest' b s a lt same agree (Begins memory number level cause f) =
+    same.at (At (organisation_block number) 0 level Fresh) (resume m f rest) (resume m' f rest') (record s { memory = with_start memory (start_information s.cycles (s.taken - 1) number level cause) }) a lt
     (record { at = λ s2 a2 h. same.at f.place rest rest' (record s2 { memory = with_registers s2.memory (restored s2.memory.registers f.kept) }) a2 (omega arith) (less_agrees rest rest' b (left s2 a2) (omega arith) agree) })
 
 reacts_same : (m m' : Meaning) (rest rest' : Rest) (b : ℕ) (s : State) (a : List Answer) → left s a < b → Same m m' b → Agree rest rest' b → (v : Reaction) → reacts m rest s a v ≡ reacts m' rest' s a v

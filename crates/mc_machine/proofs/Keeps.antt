@@ -8,10 +8,11 @@ use Rattle.s7_events.specs.declared.diagnostics.DiagCode.{DiagCode}
 use Rattle.s7_base.specs.Blocks.{Program}
 use Rattle.diag_buffer.specs.declared.note.Note.{Note}
 use Rattle.statement_effects.specs.State.{Memory}
-use Rattle.mc_machine.specs.Places.{AtOutputs, AtStop, Over, Frame}
-use Rattle.mc_machine.specs.Meaning.{State, Waits, Stopped, Undefined, Rest, Move, Goes, Calls, Reaction, Again, Completes, Turn, Asks, Moves, Halts, Leaves, Ends, with_note, stop_request, at_block_end, resume, moves, reacts, cycles_after, took, does, body, turn_of, takes, is_dated, takes_at, answered, never, start, start_notes, start_cycles, std}
+use Rattle.mc_machine.specs.Places.{Place, AtOutputs, AtStop, Over, At, Fresh, Frame}
+use Rattle.mc_machine.specs.Meaning.{State, Waits, Stopped, Undefined, Rest, Move, Goes, Calls, Begins, Reaction, Again, Completes, Turn, Asks, Moves, Halts, Leaves, Ends, with_note, organisation_block, start_information, stop_request, at_block_end, resume, moves, reacts, cycles_after, took, does, body, turn_of, takes, is_dated, takes_at, answered, never, starts, start_notes, std}
 use Rattle.statement_effects.specs.Areas.{start_memory}
-use Rattle.mc_machine.specs.Stands.{Config, newest, with_newest, state_of, rest_of, todo, StandsFor, IsMoved, Reacts, Follows, AsksAt, Keeps, turns_left}
+use Rattle.statement_effects.specs.Levels.{with_start}
+use Rattle.mc_machine.specs.Stands.{Config, newest, with_newest, state_of, rest_of, todo, start_config, StandsFor, IsMoved, Reacts, Follows, AsksAt, Keeps, turns_left}
 use Rattle.mc_machine.proofs.Enough.{Counts, body_turn}
 
 rest_push : (rest : Rest) (frames : List Frame) (frame : Frame) → rest_of rest (frames ++ frame ∷ []) ≡ resume body frame (rest_of rest frames)
@@ -24,11 +25,17 @@ turns c notes n a t e =
     body_turn c.place (rest_of never c.frames) (state_of c notes n) a
     ∙ ap (does body c.place (rest_of never c.frames) (state_of c notes n) a) e
 
-moved : (c c' : Config) (notes : List Note) (n : ℕ) (a : List Answer) (memory : Memory) (since at : ℕ) (note : Option DiagCode) (v : Move) → IsMoved v c since at note c' → moves body (rest_of never c.frames) (record { program = c.program; memory = memory; since = since; cycles = c.cycles; notes = notes; taken = n }) a v ≡ todo c' notes n a
-moved c c' notes n a memory since at _ (Goes memory' place) e = sym (ap (λ x. todo x notes n a) e)
-moved c c' notes n a memory since at _ (Calls memory' place frame) e =
+moved : (c c' : Config) (notes : List Note) (n : ℕ) (a : List Answer) (memory : Memory) (since at : ℕ) (note : Option DiagCode) (v : Move) → at ≡ n - 1 → IsMoved v c since at note c' → moves body (rest_of never c.frames) (record { program = c.program; memory = memory; since = since; cycles = c.cycles; notes = notes; taken = n }) a v ≡ todo c' notes n a
+moved c c' notes n a memory since at _ (Goes memory' place) m e = sym (ap (λ x. todo x notes n a) e)
+moved c c' notes n a memory since at _ (Calls memory' place frame) m e =
     sym (ap (λ x. todo x notes n a) e
     ∙ ap (λ k. body place k (record { program = c.program; memory = memory'; since = since; cycles = c.cycles; notes = notes; taken = n }) a) (rest_push never c.frames frame))
+moved c c' notes n a memory since at _ (Begins memory' number level cause frame) m e =
+    let begun : ℕ → State = λ moment. record { program = c.program; memory = with_start memory' (start_information c.cycles moment number level cause); since = since; cycles = c.cycles; notes = notes; taken = n } in
+    let place : Place = At (organisation_block number) 0 level Fresh in
+    sym (ap (λ x. todo x notes n a) e
+    ∙ ap (λ k. body place k (begun at) a) (rest_push never c.frames frame)
+    ∙ ap (λ moment. body place (resume body frame (rest_of never c.frames)) (begun moment) a) m)
 
 -- all diagnostic entries after a turn
 abbrev notes_after : Turn → List Note → ℕ → List Note
@@ -43,7 +50,7 @@ keeps : (c c' : Config) (o : Option Request) (notes : List Note) (n : ℕ) (a : 
 keeps c c' o notes n a (Asks r) m e f = sym (ap (λ x. todo x notes n a) f.1)
 keeps c c' o notes n a (Moves note v) m e f =
     turns c notes n a (Moves note v) e
-    ∙ moved c c' (with_note notes (n - 1) note) n a c.memory (c.since + 1) c.at note v f.1
+    ∙ moved c c' (with_note notes (n - 1) note) n a c.memory (c.since + 1) c.at note v m f.1
     ∙ ap (λ k. todo c' (with_note notes k note) n a) (sym m)
 keeps c c' o notes n a (Halts note memory code) m e f =
     let halted : Config = record { program = c.program; place = AtStop code; frames = c.frames; memory = memory; since = c.since; at = c.at; cycles = c.cycles; diag = with_newest c.diag c.at note } in
@@ -77,10 +84,12 @@ with_newest_note notes moment (Some code) = newest_more notes (record { moment =
 moved_diag : (c c' : Config) (since at : ℕ) (note : Option DiagCode) (v : Move) → IsMoved v c since at note c' → c'.diag ≡ with_newest c.diag at note
 moved_diag c c' since at _ (Goes memory p) e = ap (λ x. x.diag) e
 moved_diag c c' since at _ (Calls memory p f) e = ap (λ x. x.diag) e
+moved_diag c c' since at _ (Begins memory number level cause f) e = ap (λ x. x.diag) e
 
 moved_at : (c c' : Config) (since at : ℕ) (note : Option DiagCode) (v : Move) → IsMoved v c since at note c' → c'.at ≡ at
 moved_at c c' since at _ (Goes memory p) e = ap (λ x. x.at) e
 moved_at c c' since at _ (Calls memory p f) e = ap (λ x. x.at) e
+moved_at c c' since at _ (Begins memory number level cause f) e = ap (λ x. x.at) e
 
 -- the newest entries are kept
 keeps_notes : (c c' : Config) (o : Option Request) (notes : List Note) (t : Turn) → Follows t c o c' → c.diag ≡ newest notes → c'.diag ≡ newest (notes_after t notes c.at)
@@ -116,6 +125,7 @@ pub falls : (c c' : Config) (t : Turn) → Counts t c.since → Follows t c None
 falls c c' (Asks r) n f = absurd cc
 falls c c' (Moves note (Goes memory p)) n f = rw f.1 (omega arith)
 falls c c' (Moves note (Calls memory p frame)) n f = rw f.1 (omega (arith, length-append c.frames (frame ∷ [])))
+falls c c' (Moves note (Begins memory number level cause frame)) n f = rw f.1 (omega (arith, length-append c.frames (frame ∷ [])))
 falls c c' (Halts note memory code) n f = absurd cc
 falls c c' Leaves n f =
     let e = ap (λ x. x.since) f.3 in
@@ -141,16 +151,16 @@ abbrev notes_reacted : Reaction → List Note → ℕ → List Note
 notes_reacted (Again note v) notes moment = with_note notes moment note
 notes_reacted (Completes t) notes moment = notes_after t notes moment
 
-reacted : (c c' : Config) (notes : List Note) (n at moment : ℕ) (a : List Answer) (v : Reaction) → moment ≡ n - 1 → Reacts v c at c' → reacts body (rest_of never c.frames) (record { program = c.program; memory = c.memory; since = 0; cycles = c.cycles; notes = notes; taken = n }) a v ≡ todo c' (notes_reacted v notes moment) n a
-reacted c c' notes n at moment a (Again note v) m e =
-    moved c c' (with_note notes (n - 1) note) n a c.memory 0 at note v e ∙ ap (λ k. todo c' (with_note notes k note) n a) (sym m)
-reacted c c' notes n at moment a (Completes (Moves note v)) m e =
-    moved c c' (with_note notes (n - 1) note) n a c.memory 1 at note v e ∙ ap (λ k. todo c' (with_note notes k note) n a) (sym m)
-reacted c c' notes n at moment a (Completes (Halts note memory code)) m e =
-    moved c c' (with_note notes (n - 1) note) n a c.memory 1 at note (Goes memory (AtStop code)) e ∙ ap (λ k. todo c' (with_note notes k note) n a) (sym m)
-reacted c c' notes n at moment a (Completes (Asks r)) m e = absurd e
-reacted c c' notes n at moment a (Completes Leaves) m e = absurd e
-reacted c c' notes n at moment a (Completes Ends) m e = absurd e
+reacted : (c c' : Config) (notes : List Note) (n moment : ℕ) (a : List Answer) (v : Reaction) → moment ≡ n - 1 → Reacts v c moment c' → reacts body (rest_of never c.frames) (record { program = c.program; memory = c.memory; since = 0; cycles = c.cycles; notes = notes; taken = n }) a v ≡ todo c' (notes_reacted v notes moment) n a
+reacted c c' notes n moment a (Again note v) m e =
+    moved c c' (with_note notes (n - 1) note) n a c.memory 0 moment note v m e ∙ ap (λ k. todo c' (with_note notes k note) n a) (sym m)
+reacted c c' notes n moment a (Completes (Moves note v)) m e =
+    moved c c' (with_note notes (n - 1) note) n a c.memory 1 moment note v m e ∙ ap (λ k. todo c' (with_note notes k note) n a) (sym m)
+reacted c c' notes n moment a (Completes (Halts note memory code)) m e =
+    moved c c' (with_note notes (n - 1) note) n a c.memory 1 moment note (Goes memory (AtStop code)) m e ∙ ap (λ k. todo c' (with_note notes k note) n a) (sym m)
+reacted c c' notes n moment a (Completes (Asks r)) m e = absurd e
+reacted c c' notes n moment a (Completes Leaves) m e = absurd e
+reacted c c' notes n moment a (Completes Ends) m e = absurd e
 
 reacted_notes : (c c' : Config) (notes : List Note) (moment : ℕ) (v : Reaction) → Reacts v c moment c' → c.diag ≡ newest notes → c'.diag ≡ newest (notes_reacted v notes moment)
 reacted_notes c c' notes moment (Again note v) e n = moved_diag c c' 0 moment note v e ∙ ap (λ d. with_newest d moment note) n ∙ with_newest_note notes moment note
@@ -176,7 +186,7 @@ takes_on c c' r x notes n moment a at e fit m =
     turns c notes n (x ∷ a) (Asks r) e
     ∙ ap (λ b. if b then reacts body (rest_of never c.frames) (took (state_of c notes n) r.ask x) a (answered c.program c.memory c.place r.ask x) else Undefined) fit
     ∙ ap (λ k. reacts body (rest_of never c.frames) (record (took (state_of c notes n) r.ask x) { cycles = cycles_after c.cycles k r.ask x }) a (answered c.program c.memory c.place r.ask x)) (sym at)
-    ∙ reacted (record c { cycles = cycles_after c.cycles moment r.ask x }) c' notes (n + 1) moment moment a (answered c.program c.memory c.place r.ask x) (omega arith) m
+    ∙ reacted (record c { cycles = cycles_after c.cycles moment r.ask x }) c' notes (n + 1) moment a (answered c.program c.memory c.place r.ask x) (omega arith) m
 
 pub stands_take : (program : Program) (c c' : Config) (r : Request) (x : Answer) (given : List Answer) (moment : ℕ) → moment ≡ length given → is_dated moment x ≡ true → AsksAt c r → takes r x ≡ true → Reacts (answered c.program c.memory c.place r.ask x) (record c { cycles = cycles_after c.cycles moment r.ask x }) moment c' → StandsFor program given c → StandsFor program (given ++ x ∷ []) c'
 stands_take program c c' r x given moment at dated e fit m stands =
@@ -205,12 +215,10 @@ stands_stops program c given e stands =
     ap (std program) (sym (append-nil given)) ∙ stands.goes_on [] ∙ turns c stands.notes (length given) [] Ends (ap (turn_of c.program c.since c.memory) e)
 
 -- at the start
-pub stands_start : (program : Program) (frames : List Frame) (memory : Memory) (diag : List Note) → frames ≡ [] → memory ≡ start_memory program → diag ≡ start_notes → StandsFor program [] (record { program = program; place = AtOutputs; frames = frames; memory = memory; since = 0; at = 0; cycles = start_cycles; diag = diag })
-stands_start program frames memory diag f m d = record {
+pub stands_start : (program : Program) (c : Config) → IsMoved (starts program) (start_config program) 0 0 None c → StandsFor program [] c
+stands_start program c e = record {
   notes = start_notes;
-  keeps_newest = d;
-  moment = refl;
-  goes_on = λ more.
-      ap (λ fs. body AtOutputs (rest_of never fs) (start program) more) (sym f)
-      ∙ ap (λ before. body AtOutputs (rest_of never frames) (record (start program) { memory = before }) more) (sym m);
+  keeps_newest = moved_diag (start_config program) c 0 0 None (starts program) e;
+  moment = moved_at (start_config program) c 0 0 None (starts program) e;
+  goes_on = λ more. moved (start_config program) c start_notes 0 more (start_memory program) 0 0 None (starts program) refl e;
 }

@@ -17,7 +17,7 @@ use Rattle.statement_effects.specs.Effect.{effect_of, effect_if, asks_first}
 use Rattle.statement_effects.specs.Reading.{instruction_of}
 use Rattle.statement_effects.specs.declared.instruction.Instruction.{Instruction}
 use Rattle.std.specs.Option.{option_map}
-use Rattle.mc_machine.specs.Meaning.{Turn, Asks, Moves, Halts, Leaves, Ends, Goes, Calls, statements_of, block_entered, error_entered, failed, begun, called, flows, runs, turn_of, request_of, stop_request}
+use Rattle.mc_machine.specs.Meaning.{Turn, Asks, Moves, Halts, Leaves, Ends, Goes, Calls, Begins, statements_of, block_entered, error_entered, failed, begun, called, flows, runs, turn_of, request_of, stop_request}
 use Rattle.mc_machine.specs.Stands.{Config, Follows, AsksAt, IsAsked, IsAskedAt, IsTurned, halts_with, IsHigh, AreStacked, AreBegun, IsSound}
 use Rattle.level_stack.specs.Levels.{LevelState, ended, block_counts}
 use Rattle.mc_machine.proofs.Begun.{no_level, one_less, main_over, same_begun}
@@ -132,6 +132,7 @@ push_sound c c' frame e stacked under high begun =
 pub turned_since : (t : Turn) (c c' : Config) (since since' at : ℕ) → IsTurned t c since at c' → IsTurned t c since' at (record c' { since = since' })
 turned_since (Moves note (Goes memory p)) c c' since since' at e = ap (λ (x : Config). record x { since = since' }) e
 turned_since (Moves note (Calls memory p f)) c c' since since' at e = ap (λ (x : Config). record x { since = since' }) e
+turned_since (Moves note (Begins memory number level cause f)) c c' since since' at e = ap (λ (x : Config). record x { since = since' }) e
 turned_since (Halts note memory code) c c' since since' at e = ap (λ (x : Config). record x { since = since' }) e
 turned_since (Asks r) c c' since since' at e = absurd e
 turned_since Leaves c c' since since' at e = absurd e
@@ -141,6 +142,7 @@ turned_since Ends c c' since since' at e = absurd e
 pub turned_moves : (t : Turn) (c c' : Config) → IsTurned t c c.since c.at c' → None ≡ halts_with t → Follows t c None (record c' { since = c.since + 1 })
 turned_moves (Moves note (Goes memory p)) c c' e n = (refl, ap (λ (x : Config). record x { since = c.since + 1 }) e)
 turned_moves (Moves note (Calls memory p f)) c c' e n = (refl, ap (λ (x : Config). record x { since = c.since + 1 }) e)
+turned_moves (Moves note (Begins memory number level cause f)) c c' e n = (refl, ap (λ (x : Config). record x { since = c.since + 1 }) e)
 turned_moves (Halts note memory code) c c' e n = absurd cc
 turned_moves (Asks r) c c' e n = absurd e
 turned_moves Leaves c c' e n = absurd e

@@ -1,5 +1,5 @@
 -- The standard CPU: what a program means, by one recursion over places and answers.
-use Rattle.std.specs.Prelude.{ℕ, zero, suc, ◌+◌, ◌-◌, ◌*◌, ◌==◌, Bool, true, false, nat_lt, if◌then◌else◌, ◌&&◌, List, [], ◌∷◌, ◌++◌, length, Option, Some, None, Result, Ok, Err, slice_get}
+use Rattle.std.specs.Prelude.{ℕ, zero, suc, ◌+◌, ◌-◌, ◌*◌, ◌%◌, ◌^◌, ◌==◌, Bool, true, false, nat_lt, if◌then◌else◌, ◌&&◌, List, [], ◌∷◌, ◌++◌, length, Option, Some, None, Result, Ok, Err, slice_get}
 use Rattle.s7_base.specs.declared.statement.Statement.{Statement}
 use Rattle.s7_base.specs.declared.blocks.BlockRef.{BlockRef}
 use Rattle.s7_base.specs.declared.blocks.CodeKind.{CodeKind}
@@ -24,9 +24,12 @@ use Rattle.bit_unit.specs.State.{cleared_unit}
 use Rattle.level_stack.specs.declared.level.LevelFault.{LevelFault}
 use Rattle.level_stack.specs.declared.level.LevelFault.TheVariants.{DepthReached, LocalFull}
 use Rattle.cpu_image.specs.Pages as image_pages
+use Rattle.level_stack.specs.StartInfo.{start_bytes}
 use Rattle.statement_effects.specs.State.{Memory}
-use Rattle.statement_effects.specs.Levels.{with_level, entered, without_block}
+use Rattle.statement_effects.specs.Levels.{with_level, entered, with_start, without_block}
 use Rattle.statement_effects.specs.declared.areas.Registers.{Registers}
+use Rattle.mc_machine.specs.declared.places.Cause.{Cause}
+use Rattle.mc_machine.specs.declared.places.Cause.TheVariants.{CpuStarted, CycleBegan, StatementFailed}
 use Rattle.mc_machine.specs.Places.{Level, Mode, Fresh, Ticking, Timing, Retriggering, Place, AtOutputs, AtInputs, AtCycle, AtStop, Over, At, Kept, Whole, Brackets, Frame}
 use Rattle.statement_effects.specs.declared.instruction.Instruction.{Instruction}
 use Rattle.statement_effects.specs.declared.instruction.Instruction.TheVariants.{Timed, Retrigger}
@@ -71,10 +74,12 @@ Rest = State → List Answer → End
 abbrev pub Meaning : Type 0
 Meaning = Place → Rest → Rest
 
--- where a statement or an answer leads: to a place, or into a block and at its end to the place of the frame
+-- where a statement or an answer leads: to a place, or into a block and at its end to the place of the frame; into an
+-- organisation block, by its number and the level that it runs on, with start information that says why
 pub data Move : Type 0 where
   Goes : (memory : Memory) (place : Place) → Move
   Calls : (memory : Memory) (place : Place) (frame : Frame) → Move
+  Begins : (memory : Memory) (number : ℕ) (level : Level) (cause : Cause) (frame : Frame) → Move
 
 -- what happens at a place: the CPU asks; or a statement is completed; or it is not, and the CPU asks to stop; or the block
 -- ends; or the CPU has stopped. A statement may make a diagnostic entry
@@ -117,8 +122,9 @@ local_bytes_for Fc temp = temp
 abbrev pub local_bytes_of : Code → ℕ
 local_bytes_of code = local_bytes_for code.kind code.temp
 
+-- an organisation block that is not loaded has those of its start information
 abbrev pub local_bytes_in : Option Code → ℕ
-local_bytes_in None = 0
+local_bytes_in None = 20
 local_bytes_in (Some code) = local_bytes_of code
 
 -- the stop where a block cannot begin: 24 blocks have begun on the level, or they have 256 local bytes
@@ -139,6 +145,34 @@ abbrev pub entered_if : StopCode → Memory → BlockRef → Option Code → Res
 entered_if missing memory block None = Err missing
 entered_if missing memory block (Some code) = block_entered memory block code
 
+-- organisation blocks --
+
+abbrev pub organisation_block : ℕ → BlockRef
+organisation_block number = record { kind = Ob; number = number }
+
+-- byte 1 of the start information: 3 in each OB1 but the first, and of an error OB the error
+abbrev pub start_byte : Bool → Cause → ℕ
+start_byte first_over CpuStarted = 1
+start_byte first_over CycleBegan = if first_over then 3 else 1
+start_byte first_over (StatementFailed error) = error
+
+-- the info in it: of OB1 how long the cycle before took
+abbrev pub start_value : ℕ → Cause → ℕ
+start_value last_length CpuStarted = 0
+start_value last_length CycleBegan = last_length
+start_value last_length (StatementFailed error) = 0
+
+-- the moment in it: that of the last answer, of which it has the low 32 bits, and none of OB1
+abbrev pub start_moment : ℕ → Cause → ℕ
+start_moment at CpuStarted = at % 2 ^ 32
+start_moment at CycleBegan = 0
+start_moment at (StatementFailed error) = at % 2 ^ 32
+
+-- the start information of an organisation block on a level, where the last answer was that of this moment
+abbrev pub start_information : Cycles → ℕ → ℕ → Level → Cause → List ℕ
+start_information cycles at number level cause =
+    start_bytes (start_byte cycles.first_over cause) level.priority number (start_value cycles.last_length cause) (start_moment at cause)
+
 -- errors --
 
 -- the OB of an error: that of a direct access is OB122
@@ -150,7 +184,7 @@ abbrev pub no_error_ob : ℕ → StopCode
 no_error_ob error = if error == 9 then stops.NoOb122 else stops.NoOb121
 
 abbrev pub error_block : ℕ → BlockRef
-error_block error = record { kind = Ob; number = error_ob error }
+error_block error = organisation_block (error_ob error)
 
 -- the OB of an error begins on the level of the block that failed. Inside an error OB, or in a block that it called, there is
 -- none
@@ -168,7 +202,7 @@ abbrev pub failed : Place → Level → Memory → ℕ → Result Memory StopCod
 failed next level memory error (Err code) = Halts (Some (notes.Error error)) memory code
 failed next level memory error (Ok inside) =
     Moves (Some (notes.Error error))
-    (Calls (with_registers inside (error_registers memory.registers)) (At (error_block error) 0 (record level { in_error = true }) Fresh) (record { place = next; kept = Whole memory.registers }))
+    (Begins (with_registers inside (error_registers memory.registers)) (error_ob error) (record level { in_error = true }) (StatementFailed error) (record { place = next; kept = Whole memory.registers }))
 
 -- a statement fails that another place follows
 abbrev pub fails : Program → Place → Level → Memory → ℕ → Turn
@@ -232,7 +266,7 @@ turn_of program since memory (At block at level Retriggering) = Asks (request_of
 -- the answers --
 
 abbrev pub main_block : BlockRef
-main_block = record { kind = Ob; number = 1 }
+main_block = organisation_block 1
 
 abbrev pub lost_note : Side → Loss → DiagCode
 lost_note side Failed = notes.LostFailed side
@@ -278,7 +312,7 @@ abbrev pub main_entered : Program → Memory → Result Memory StopCode
 main_entered program memory = or_stop (entered (with_level memory (priority_of 1)) main_block (local_bytes_in (code_of program Ob 1)))
 
 abbrev pub main_begun : Memory → Result Memory StopCode → Move
-main_begun memory (Ok inside) = Calls inside (At main_block 0 main_level Fresh) cycle_frame
+main_begun memory (Ok inside) = Begins inside 1 main_level CycleBegan cycle_frame
 main_begun memory (Err code) = Goes memory (AtStop code)
 
 -- OB1 begins over the input image that was answered
@@ -385,11 +419,14 @@ abbrev pub resume : Meaning → Frame → Rest → Rest
 resume meaning frame rest state given =
     meaning frame.place rest (record state { memory = with_registers state.memory (restored state.memory.registers frame.kept) }) given
 
--- a call is the meaning of the called block, and then of what follows it
+-- a call is the meaning of the called block, and then of what follows it; an organisation block finds its start information
 abbrev pub moves : Meaning → Rest → State → List Answer → Move → End
 moves meaning rest state given (Goes memory place) = meaning place rest (record state { memory = memory }) given
 moves meaning rest state given (Calls memory place frame) =
     meaning place (resume meaning frame rest) (record state { memory = memory }) given
+moves meaning rest state given (Begins memory number level cause frame) =
+    meaning (At (organisation_block number) 0 level Fresh) (resume meaning frame rest)
+    (record state { memory = with_start memory (start_information state.cycles (state.taken - 1) number level cause) }) given
 
 -- one statement more was completed
 abbrev pub completed : State → State
@@ -479,9 +516,31 @@ start_cycles = record { began_at = 0; last_length = 0; first_over = false }
 abbrev pub start : Program → State
 start program = record { program = program; memory = start_memory program; since = 0; cycles = start_cycles; notes = start_notes; taken = 0 }
 
+-- OB100 runs on a level of its own, and its end leads to the first cycle
+abbrev pub startup_level : Level
+startup_level = record { priority = priority_of 100; in_error = false }
+
+abbrev pub startup_frame : Frame
+startup_frame = record { place = AtOutputs; kept = Whole clear_registers }
+
+abbrev pub startup_entered : Memory → Code → Result Memory StopCode
+startup_entered memory code = block_entered (with_level memory (priority_of 100)) (organisation_block 100) code
+
+abbrev pub startup_begun : Memory → Result Memory StopCode → Move
+startup_begun memory (Ok inside) = Begins inside 100 startup_level CpuStarted startup_frame
+startup_begun memory (Err code) = Goes memory (AtStop code)
+
+abbrev pub startup_if : Memory → Option Code → Move
+startup_if memory None = Goes memory AtOutputs
+startup_if memory (Some code) = startup_begun memory (startup_entered memory code)
+
+-- where a program starts: in OB100 where it is loaded, and else at the first cycle
+abbrev pub starts : Program → Move
+starts program = startup_if (start_memory program) (code_of program Ob 100)
+
 -- what the standard CPU does with a program and answers
 abbrev pub std : Program → List Answer → End
-std program given = body AtOutputs never (start program) given
+std program given = moves body never (start program) given (starts program)
 
 -- the request at which it waits, if it does
 abbrev pub next_of : End → Option Request

@@ -16,12 +16,13 @@ use Rattle.cpu_image.specs.declared.area.ByteArea.TheVariants as byte_areas
 use Rattle.cpu_image.specs.Image as image
 use Rattle.cpu_image.specs.Pages as image_pages
 use Rattle.statement_effects.specs.State.{Memory}
-use Rattle.mc_machine.specs.Places.{Level, Mode, Place, AtOutputs, AtInputs, AtCycle, AtStop, Over, At, Frame}
+use Rattle.statement_effects.specs.Levels.{with_start}
+use Rattle.mc_machine.specs.Places.{Level, Mode, Place, AtOutputs, AtInputs, AtCycle, AtStop, Over, At, Fresh, Frame}
 use Rattle.timers.specs.Bytes as timer_form
 use Rattle.counters.specs.Bytes as counter_form
-use Rattle.statement_effects.specs.Areas.{with_registers, data_length}
+use Rattle.statement_effects.specs.Areas.{with_registers, data_length, start_memory}
 use Rattle.statement_effects.specs.CounterEffect.{counter_at}
-use Rattle.mc_machine.specs.Meaning.{Cycles, State, End, Waits, Stopped, Rest, Move, Goes, Calls, Reaction, Again, Completes, Turn, Asks, Moves, Halts, Leaves, Ends, stop_request, at_block_end, restored, resume, body, takes, is_dated, stops_cpu, turn_of, never, std}
+use Rattle.mc_machine.specs.Meaning.{Cycles, State, End, Waits, Stopped, Rest, Move, Goes, Calls, Begins, Reaction, Again, Completes, Turn, Asks, Moves, Halts, Leaves, Ends, organisation_block, start_information, stop_request, at_block_end, restored, resume, body, takes, is_dated, stops_cpu, turn_of, never, start_notes, start_cycles, std}
 
 -- where a machine is: its program, its place, the frames under it, what the statements see, the statements completed
 -- since the last answer, the moment of that answer, the cycles, and the diagnostic entries that it keeps
@@ -47,6 +48,10 @@ with_newest notes moment (Some code) = newest (notes ++ record { moment = moment
 abbrev pub state_of : Config → List Note → ℕ → State
 state_of c notes taken = record { program = c.program; memory = c.memory; since = c.since; cycles = c.cycles; notes = notes; taken = taken }
 
+-- a machine before the CPU starts
+abbrev pub start_config : Program → Config
+start_config program = record { program = program; place = AtOutputs; frames = []; memory = start_memory program; since = 0; at = 0; cycles = start_cycles; diag = start_notes }
+
 -- what is left of the frames: the last one first, and at last what follows them all
 abbrev pub rest_of : Rest → List Frame → Rest
 rest_of rest [] = rest
@@ -67,6 +72,7 @@ pub record StandsFor (program : Program) (given : List Answer) (c : Config) : Ty
 abbrev pub IsMoved : Move → Config → ℕ → ℕ → Option DiagCode → Config → Type 0
 IsMoved (Goes memory place) c since at note c' = c' ≡ record { program = c.program; place = place; frames = c.frames; memory = memory; since = since; at = at; cycles = c.cycles; diag = with_newest c.diag at note }
 IsMoved (Calls memory place frame) c since at note c' = c' ≡ record { program = c.program; place = place; frames = c.frames ++ frame ∷ []; memory = memory; since = since; at = at; cycles = c.cycles; diag = with_newest c.diag at note }
+IsMoved (Begins memory number level cause frame) c since at note c' = c' ≡ record { program = c.program; place = At (organisation_block number) 0 level Fresh; frames = c.frames ++ frame ∷ []; memory = with_start memory (start_information c.cycles at number level cause); since = since; at = at; cycles = c.cycles; diag = with_newest c.diag at note }
 
 -- the machine is where a turn leads that moves or halts, with so many statements completed
 abbrev pub IsTurned : Turn → Config → ℕ → ℕ → Config → Type 0

@@ -6,18 +6,19 @@ ghost use Rattle.s7_events.specs.declared.entry.Answer.{Answer};
 ghost use Rattle.s7_base.specs.declared.blocks.BlockRef.{BlockRef};
 ghost use Rattle.statement_effects.specs.Areas.{start_memory};
 ghost use Rattle.mc_machine.specs.Meaning.{error_registers, fails, begun, calls, turn_of, flows, jump_among, cycle_length, cycles_after, answered, takes, stops_cpu, begins_main, lost_note, again_mode, again, resumed, timed_at, retriggered_at, Leaves, Waits, std, request_of, stop_request};
-ghost use Rattle.mc_machine.specs.Stands.{Running, state_of, newest, with_newest, StandsFor, IsMoved, IsTurned, halts_with, Reacts, Follows, register_head, register_bytes, IsHigh, AreStacked, AreBegun, IsSound, IsValid, IsAskedAt, AsksAt, Keeps, IsTaken, IsDated, IsAsked, GoesOn};
+ghost use Rattle.mc_machine.specs.Stands.{Running, state_of, newest, with_newest, start_config, StandsFor, IsMoved, IsTurned, halts_with, Reacts, Follows, register_head, register_bytes, IsHigh, AreStacked, AreBegun, IsSound, IsValid, IsAskedAt, AsksAt, Keeps, IsTaken, IsDated, IsAsked, GoesOn};
 ghost use Rattle.mc_machine.specs.Places.{AtInputs, AtStop, Over, At, Fresh};
 ghost use Rattle.mc_machine.specs.EngineView.{level_in, mode_of, place_of, frame_of, config_of, running_of, decoded_codes, gone_to, IsCode, IsIndexed, AreIndexed, AreFound, IsStored};
 ghost use Rattle.s7_events.specs.declared.entry.Ask.{Ask};
 
+mod starts;
+
 use crate::codes::{decoded_at, end_of, instruction_in};
 use crate::index::CodeIndex;
 use crate::levels::{
-    call_registers, enter_block, enter_error_ob, enter_main, error_ob, error_registers, ob,
-    restored,
+    call_registers, enter_block, enter_error_ob, enter_main, error_ob, error_registers, restored,
 };
-use crate::places::{BlockSpot, Frame, Level, Mode, Returns, Spot};
+use crate::places::{BlockSpot, Cause, Frame, Level, Mode, Returns, Spot};
 use arrayvec::ArrayVec;
 use diag_buffer::Diag;
 use s7_base::{Answer, Ask, BlockRef, Blocks, CodeKind, DiagCode, Loss, Request, Side, StopCode};
@@ -139,9 +140,9 @@ fn again_mode(ask: &Ask, mode: Mode) -> Mode
 }
 
 impl Engine {
-    /// The CPU at the start of its first cycle, with a buffer for its diagnostic entries.
+    /// The CPU at its start, with a buffer for its diagnostic entries: in OB100 where it is loaded, and else at its first cycle.
     #[tactic(auto, using(crate::proofs::Keeps::stands_start))]
-    pub fn start(program: Blocks, decoded: Vec<DecodedBlock>, memory: Memory, mut diag: Diag) -> Engine
+    pub fn start(program: Blocks, decoded: Vec<DecodedBlock>, memory: Memory, diag: Diag) -> Engine
         requires decoded { decoded.items ≡ decoded_codes program.codes }
         requires memory { memory ≡ start_memory program }
         requires empty { diag ≡ [] }
@@ -149,6 +150,25 @@ impl Engine {
         ensures stored { IsStored result }
         ensures going { (config_of result).place ≢ Over }
         ensures stands { StandsFor program [] (config_of result) }
+    {
+        let mut engine = Engine::before_start(program, decoded, memory, diag);
+        engine.start_up();
+        engine
+    }
+
+    /// The CPU before it starts.
+    fn before_start(
+        program: Blocks,
+        decoded: Vec<DecodedBlock>,
+        memory: Memory,
+        mut diag: Diag,
+    ) -> Engine
+        requires decoded { decoded.items ≡ decoded_codes program.codes }
+        requires memory { memory ≡ start_memory program }
+        requires empty { diag ≡ [] }
+        ensures config { config_of result ≡ start_config program }
+        ensures stored { IsStored result }
+        ensures waits { result.waits ≡ None }
     {
         diag.note(0, DiagCode::Start);
         let index = CodeIndex::of(program.codes());
@@ -473,7 +493,7 @@ impl Engine {
             priority: 1,
             in_error: false,
         };
-        self.begin(ob(1), level, frame);
+        self.begin_organisation_block(1, level, Cause::CycleBegan, frame);
     }
 
     /// The machine waits at a request.
@@ -637,7 +657,8 @@ impl Engine {
                     in_error: true,
                 };
                 self.memory.set_registers(error_registers(&registers));
-                self.begin(ob(error_ob(error)), level, frame);
+                let cause = Cause::StatementFailed(error);
+                self.begin_organisation_block(error_ob(error), level, cause, frame);
                 self.note(DiagCode::Error(error));
                 None
             }

@@ -1,14 +1,16 @@
 //! How blocks begin, and what an error leads to.
-ghost use Rattle.std.specs.Prelude.{◌≡◌, ◌<◌, [], length, Ok, Err, OnOk, OnErr, IfErr};
+ghost use Rattle.std.specs.Prelude.{◌≡◌, ◌<◌, ◌≤◌, [], length, Ok, Err, OnOk, OnErr, IfErr};
 ghost use Rattle.s7_base.specs.declared.blocks.CodeKind.{CodeKind};
-ghost use Rattle.mc_machine.specs.Meaning.{local_bytes_of, stop_of, block_entered, main_entered, error_ob, no_error_ob, error_entered, error_registers, call_registers, restored};
+ghost use Rattle.s7_base.specs.Blocks.{code_of};
+ghost use Rattle.level_stack.specs.Levels.{running_locals};
+ghost use Rattle.mc_machine.specs.Meaning.{local_bytes_of, local_bytes_in, stop_of, block_entered, startup_entered, main_entered, error_ob, no_error_ob, error_entered, error_registers, call_registers, restored, start_byte, start_value, start_moment};
 ghost use Rattle.mc_machine.specs.Stands.{AreBegun, IsDeeper};
 ghost use Rattle.mc_machine.specs.EngineView.{level_in, kept_of, AreFound};
 
 use crate::index::CodeIndex;
-use crate::places::{Frame, Level, Returns};
+use crate::places::{Cause, Frame, Level, Returns};
 use bit_unit::BitUnit;
-use s7_base::{BlockRef, Blocks, CodeBlock, CodeKind, StopCode};
+use s7_base::{BlockRef, Blocks, CodeBlock, CodeKind, StopCode, priority};
 use statement_effects::{LevelFault, Memory, Registers};
 
 /// The local bytes of a code block.
@@ -36,11 +38,12 @@ fn stop_of(fault: LevelFault) -> StopCode
 ///
 /// # Errors
 /// The stop where no depth or no local data is left. Nothing changes.
-#[tactic(auto, using(crate::proofs::Begun::has_level, crate::proofs::Begun::is_deeper))]
+#[tactic(auto, using(crate::proofs::Begun::has_level, crate::proofs::Begun::is_deeper, crate::proofs::Begun::block_has))]
 pub fn enter_block(memory: &mut Memory, block: BlockRef, code: &CodeBlock) -> Result<(), StopCode>
     requires { 0 < length memory.old.levels }
     ensures ok { OnOk result (block_entered memory.old block code.now ≡ Ok memory.new) }
     ensures deeper { OnOk result (IsDeeper memory.old.levels memory.new.levels) }
+    ensures local { OnOk result (length (running_locals memory.new.levels) ≡ local_bytes_of code.now) }
     ensures err { IfErr result (λ stop. block_entered memory.old block code.now ≡ Err stop) }
     ensures same { OnErr result (memory.new ≡ memory.old) }
 {
@@ -50,23 +53,54 @@ pub fn enter_block(memory: &mut Memory, block: BlockRef, code: &CodeBlock) -> Re
     }
 }
 
+/// Begins OB100 on a level of its own.
+///
+/// # Errors
+/// The stop where it has no local data. Nothing changes.
+#[tactic(auto, using(crate::proofs::Begun::main_begins, crate::proofs::Begun::first_has))]
+pub fn enter_startup(memory: &mut Memory, code: &CodeBlock) -> Result<(), StopCode>
+    requires idle { memory.old.levels ≡ [] }
+    requires enough { 20 ≤ local_bytes_of code.now }
+    ensures ok { OnOk result (startup_entered memory.old code.now ≡ Ok memory.new) }
+    ensures begun { OnOk result (AreBegun 1 memory.new.levels) }
+    ensures local { OnOk result (20 ≤ length (running_locals memory.new.levels)) }
+    ensures err { IfErr result (λ stop. startup_entered memory.old code.now ≡ Err stop) }
+    ensures same { OnErr result (memory.new ≡ memory.old) }
+{
+    match memory.begin_level(priority(100), ob(100), local_bytes(code)) {
+        Ok(()) => Ok(()),
+        Err(fault) => Err(stop_of(fault)),
+    }
+}
+
+/// The local bytes of an organisation block; one that is not loaded has those of its start information.
+#[tactic(auto, using(crate::proofs::Begun::ob_has))]
+fn ob_bytes(program: &Blocks, index: &CodeIndex, number: u8) -> u16
+    requires { AreFound program.now.codes index.now }
+    ensures bytes { result ≡ local_bytes_in (code_of program.now CodeKind.Ob number) }
+    ensures enough { 20 ≤ result }
+{
+    match index.code(program, ob(number)) {
+        Some(code) => local_bytes(code),
+        None => 20,
+    }
+}
+
 /// Begins OB1 on a level of its own.
 ///
 /// # Errors
 /// The stop where it has no local data. Nothing changes.
-#[tactic(auto, using(crate::proofs::Begun::main_begins))]
+#[tactic(auto, using(crate::proofs::Begun::main_begins, crate::proofs::Begun::first_has))]
 pub fn enter_main(program: &Blocks, index: &CodeIndex, memory: &mut Memory) -> Result<(), StopCode>
     requires found { AreFound program.now.codes index.now }
     requires idle { memory.old.levels ≡ [] }
     ensures ok { OnOk result (main_entered program.now memory.old ≡ Ok memory.new) }
     ensures begun { OnOk result (AreBegun 1 memory.new.levels) }
+    ensures local { OnOk result (20 ≤ length (running_locals memory.new.levels)) }
     ensures err { IfErr result (λ stop. main_entered program.now memory.old ≡ Err stop) }
     ensures same { OnErr result (memory.new ≡ memory.old) }
 {
-    let bytes = match index.code(program, ob(1)) {
-        Some(code) => local_bytes(code),
-        None => 0,
-    };
+    let bytes = ob_bytes(program, index, 1);
     match memory.begin_level(1, ob(1), bytes) {
         Ok(()) => Ok(()),
         Err(fault) => Err(stop_of(fault)),
@@ -116,6 +150,7 @@ pub fn enter_error_ob(
     requires level { 0 < length memory.old.levels }
     ensures ok { OnOk result (error_entered program.now (level_in level) memory.old error ≡ Ok memory.new) }
     ensures deeper { OnOk result (IsDeeper memory.old.levels memory.new.levels) }
+    ensures local { OnOk result (20 ≤ length (running_locals memory.new.levels)) }
     ensures err { IfErr result (λ stop. error_entered program.now (level_in level) memory.old error ≡ Err stop) }
     ensures same { OnErr result (memory.new ≡ memory.old) }
 {
@@ -127,6 +162,37 @@ pub fn enter_error_ob(
         return Err(no_error_ob(error));
     };
     enter_block(memory, block, code)
+}
+
+/// Byte 1 of the start information.
+pub fn start_byte(first_over: bool, cause: Cause) -> u8
+    ensures { result ≡ start_byte first_over cause }
+{
+    match cause {
+        Cause::CpuStarted => 1,
+        Cause::CycleBegan => if first_over { 3 } else { 1 },
+        Cause::StatementFailed(error) => error,
+    }
+}
+
+/// The info of the start information: of OB1 how long the cycle before took, in milliseconds.
+pub fn start_value(last_length: u16, cause: Cause) -> u32
+    ensures { result ≡ start_value last_length cause }
+{
+    match cause {
+        Cause::CycleBegan => u32::from(last_length),
+        Cause::CpuStarted | Cause::StatementFailed(_) => 0,
+    }
+}
+
+/// The moment of the start information: that of the last answer, in its low 32 bits, and none of OB1.
+pub fn start_moment(at: u64, cause: Cause) -> u32
+    ensures { result ≡ start_moment at cause }
+{
+    match cause {
+        Cause::CycleBegan => 0,
+        Cause::CpuStarted | Cause::StatementFailed(_) => (at % (1 << 32)) as u32,
+    }
 }
 
 /// The registers with which an error OB begins.

@@ -48,6 +48,17 @@ pub enum Spot {
     At(BlockSpot),
 }
 
+/// Why an organisation block begins.
+#[derive(Clone, Copy, Debug)]
+pub enum Cause {
+    /// The CPU started.
+    CpuStarted,
+    /// A cycle began.
+    CycleBegan,
+    /// A statement failed, with this error.
+    StatementFailed(u8),
+}
+
 /// What comes back, when a block ends, of the registers that were kept when it began.
 #[derive(Clone, Copy, Debug, Default)]
 pub enum Returns {

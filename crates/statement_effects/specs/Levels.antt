@@ -1,5 +1,5 @@
 -- How levels and blocks begin and end, as the statements see it.
-use Rattle.std.specs.Prelude.{ℕ, ◌+◌, ◌==◌, nat_lt, [], ◌∷◌, ◌++◌, length, if◌then◌else◌, Result, Ok, Err}
+use Rattle.std.specs.Prelude.{ℕ, ◌+◌, ◌==◌, nat_lt, List, [], ◌∷◌, ◌++◌, length, if◌then◌else◌, Result, Ok, Err}
 use Rattle.s7_base.specs.declared.blocks.BlockRef.{BlockRef}
 use Rattle.level_stack.specs.declared.level.LevelFault.{LevelFault}
 use Rattle.level_stack.specs.declared.level.LevelFault.TheVariants.{DepthReached, LocalFull}
@@ -20,6 +20,10 @@ entered memory block bytes =
     if length (levels.running_frames memory.levels) == 24 then Err DepthReached
     else if nat_lt 256 (levels.local_count (levels.running_frames memory.levels) + bytes) then Err LocalFull
     else Ok (with_block memory block bytes)
+
+-- the start information of an organisation block stands in the first bytes of local data of the block that runs
+abbrev pub with_start : Memory → List ℕ → Memory
+with_start memory bytes = record memory { levels = levels.with_last (levels.started bytes) memory.levels }
 
 -- the block that runs has ended, and where it was the last one of its level, the level too
 abbrev pub without_block : Memory → Memory

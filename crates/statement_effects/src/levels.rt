@@ -1,7 +1,7 @@
 //! How levels and blocks begin and end.
 ghost use Rattle.std.specs.Prelude.{◌≡◌, ◌<◌, ◌≤◌, length, OnOk, OnErr, IfErr, Ok, Err};
-ghost use Rattle.level_stack.specs.Levels.{running_frames};
-ghost use Rattle.statement_effects.specs.Levels.{with_level, with_block, entered, without_block};
+ghost use Rattle.level_stack.specs.Levels.{running_frames, running_locals, block_counts};
+ghost use Rattle.statement_effects.specs.Levels.{with_level, with_block, entered, with_start, without_block};
 
 use crate::Memory;
 use level_stack::LevelFault;
@@ -50,6 +50,15 @@ impl Memory {
             self.levels.pop_level();
         }
         begun
+    }
+
+    /// Writes the start information of an organisation block into the first 20 bytes of local data of the block that runs.
+    pub fn write_start(&mut self, bytes: &[u8; 20])
+        requires { 20 ≤ length (running_locals self.old.levels) }
+        ensures started { self.new ≡ with_start self.old bytes.now }
+        ensures blocks { block_counts self.new.levels ≡ block_counts self.old.levels }
+    {
+        self.levels.write_start(bytes);
     }
 
     /// Ends the block that runs, and where it was the last one of its level, the level too.

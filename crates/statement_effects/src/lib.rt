@@ -33,4 +33,4 @@ pub use instruction::{
 pub use laws::supported_statements_mean_instructions;
 pub use level_stack::LevelFault;
 pub use reading::instruction_of;
-pub use supported::{is_local, is_supported};
+pub use supported::is_supported;

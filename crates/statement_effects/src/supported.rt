@@ -15,13 +15,6 @@ fn is_elsewhere(statement: &Statement) -> bool
     is_in(statement, OperandArea::PeripheralIn) || is_in(statement, OperandArea::PeripheralOut)
 }
 
-/// Returns whether the operand of a statement is of local data.
-pub fn is_local(statement: &Statement) -> bool
-    ensures { result ≡ is_in areas.Local statement.now }
-{
-    is_in(statement, OperandArea::Local)
-}
-
 /// Returns whether a statement is one that is supported: its operand is none of the peripherals.
 pub fn is_supported(statement: &Statement) -> bool
     ensures { result ≡ is_supported statement.now }

@@ -1,6 +1,6 @@
 -- The CPU has one answer more.
 use Rattle.std.proofs.Common.{◌≡◌, ℕ, subst, ap, IfSome, Some}
-use Rattle.mc_machine.specs.Meaning.{Cycles, Reaction, Again, Completes, Asks, Moves, Halts, Leaves, Ends, Goes, Calls, answered, cycles_after}
+use Rattle.mc_machine.specs.Meaning.{Cycles, Reaction, Again, Completes, Asks, Moves, Halts, Leaves, Ends, Goes, Calls, Begins, answered, cycles_after}
 use Rattle.mc_machine.specs.Stands.{Config, AsksAt, IsTaken, Reacts}
 use Rattle.mc_machine.specs.EngineView.{config_of}
 use Rattle.mc_machine.proofs.Keeps.{stands_take}
@@ -11,8 +11,10 @@ use Rattle.mc_machine.proofs.engine.Engine.take.Goals as goal
 rebased : (v : Reaction) (c c' : Config) (cycles : Cycles) (since at moment : ℕ) → Reacts v (record c { since = since; at = at; cycles = cycles }) moment c' → Reacts v (record c { cycles = cycles }) moment c'
 rebased (Again note (Goes memory place)) c c' cycles since at moment e = e
 rebased (Again note (Calls memory place frame)) c c' cycles since at moment e = e
+rebased (Again note (Begins memory number level cause frame)) c c' cycles since at moment e = e
 rebased (Completes (Moves note (Goes memory place))) c c' cycles since at moment e = e
 rebased (Completes (Moves note (Calls memory place frame))) c c' cycles since at moment e = e
+rebased (Completes (Moves note (Begins memory number level cause frame))) c c' cycles since at moment e = e
 rebased (Completes (Halts note memory code)) c c' cycles since at moment e = e
 rebased (Completes (Asks r)) c c' cycles since at moment e = absurd e
 rebased (Completes Leaves) c c' cycles since at moment e = absurd e
