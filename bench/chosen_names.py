@@ -1,9 +1,9 @@
 #!/usr/bin/env python3
 """Writes a source of 1,048,576 bytes, or of as many as the argument says, whose declared names were chosen.
 
-In a map with the hash of the kit's `IndexMap`, whose start is fixed, each of these names belongs to one of 16 groups in 8,192
-(its hash ends in nine zeros), and so a search passes most of the names before it. Each declaration has 11 bytes; there are 85,747
-such names of five letters and digits, and blanks fill the rest.
+In a map with the hash of the kit's `IndexMap`, whose start is fixed, these names look alike (the first eight bits of their
+hashes are 0 or 1, which count as the same) and begin in the first quarter of 8,192 groups, and so a search passes thousands of
+the names before it. Each declaration has 11 bytes; there are 85,508 such names, and blanks fill the rest.
 
     python3 bench/chosen_names.py >chosen.awl
     time ./s7h load chosen.awl
@@ -49,7 +49,8 @@ def chosen():
         for mixed, letter in lasts:
             product = (state ^ mixed) * last_step
             found = product & LOW ^ product >> 64
-            if (found ^ found >> 32) & 511 == 0:
+            place = (found ^ found >> 32) & 0xFFFFFFFF
+            if place >> 24 < 2 and place & 8191 < 2048:
                 yield bytes(front) + bytes([letter])
 
 
