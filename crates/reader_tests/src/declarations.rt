@@ -37,8 +37,9 @@ fn push_size(alloc: Global, all: &mut Vec<u8>, size: u32, behind: u32) -> Result
 
 fn places_of(alloc: Global, layout: &Layout, behind: u32) -> Result<Vec<u8>, Fail> {
     let mut all = Vec::new(alloc);
-    for (name, variable) in layout.names().iter() {
-        push_place(alloc, &mut all, name.as_slice(), variable.first_bit)?;
+    for declared in layout.names() {
+        let first_bit = declared.variable.first_bit;
+        push_place(alloc, &mut all, declared.name.as_slice(), first_bit)?;
     }
     push_size(alloc, &mut all, layout.size(), behind)?;
     Ok(all)

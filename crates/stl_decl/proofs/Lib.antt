@@ -1,6 +1,6 @@
 pub mod Repeat
 pub mod Starts
-pub mod Names
+pub mod Found
 pub mod Turns
 pub mod Writes
 pub mod Laying

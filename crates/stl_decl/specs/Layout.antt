@@ -1,11 +1,15 @@
 -- The layout of a section.
-use Rattle.std.specs.Prelude.{ℕ, List, [], ◌∷◌, ◌++◌, ◌/◌, Option, Vec}
+use Rattle.std.specs.Prelude.{◌≡◌, ℕ, suc, List, [], ◌∷◌, ◌++◌, ◌/◌, Option, Some, None, Vec, if◌then◌else◌}
 use Rattle.std.specs.declared.alloc.Global.{Global}
+use Rattle.std.specs.BTreeMap.{BTreeMap, get_by}
+use Rattle.std.specs.Cmp.Lexicographic.{slice_cmp}
+use Rattle.std.specs.Ordering.{nat_cmp}
 use Rattle.std.specs.List.{find}
 use Rattle.std.specs.Option.{option_map}
 use Rattle.std.specs.Str.{bytes_eq}
 use Rattle.stl_decl.specs.Types.{round_up, end_bit}
 use Rattle.stl_decl.specs.Places.{Place}
+use Rattle.stl_decl.specs.declared.names.DeclaredName.{DeclaredName}
 use Rattle.stl_decl.specs.declared.layout.FirstValue.{FirstValue}
 use Rattle.stl_decl.specs.declared.layout.Declaration.{Declaration}
 
@@ -26,9 +30,9 @@ pub record Declared : Type 0 where
   pub variable : Place
   pub values : List FirstValue
 
--- an entry of the map of names
-abbrev pub named : Vec ℕ Global × Place → Name
-named e = record { name = e.0.items; variable = e.1 }
+-- a declared name without where it lies in memory
+abbrev pub named : DeclaredName → Name
+named d = record { name = d.name.items; variable = d.variable }
 
 -- a declaration without where it lies in memory
 abbrev pub declaration_of : Declaration → Declared
@@ -37,9 +41,22 @@ declaration_of d = record { name = d.name.items; variable = d.variable; values =
 abbrev pub empty_section : Section
 empty_section = record { names = []; end = 0; values = [] }
 
+-- what a name in upper case stands for among these
+abbrev pub variable_among : List Name → List ℕ → Option Place
+variable_among ns word = option_map (λ n. n.variable) (find (λ n. bytes_eq word n.name) ns)
+
+-- the place of a name in the list: how many stand before it
+unfoldable pub place_of : List Name → List ℕ → Option ℕ
+place_of [] word = None
+place_of (n ∷ ns) word = if bytes_eq word n.name then Some 0 else option_map suc (place_of ns word)
+
+-- the map has exactly the names of the list, each at its place
+abbrev pub FindsPlaces : BTreeMap (Vec ℕ Global) ℕ → List Name → Type 0
+FindsPlaces places ns = (word : List ℕ) → get_by (λ k. slice_cmp nat_cmp word k.items) places ≡ place_of ns word
+
 -- what a name in upper case stands for
 abbrev pub variable_of : Section → List ℕ → Option Place
-variable_of s word = option_map (λ n. n.variable) (find (λ n. bytes_eq word n.name) s.names)
+variable_of s word = variable_among s.names word
 
 -- the whole is rounded up to an even number of bytes
 abbrev pub size_of : Section → ℕ

@@ -6,9 +6,8 @@ ghost use Rattle.stl_decl.specs.Laid.{AreLaid, AreApart, AreAligned};
 ghost use Rattle.stl_decl.specs.Layout.{named, declaration_of, empty_section, variable_of, size_of, added, assigned};
 
 use crate::fault::StepError;
+use crate::names::{DeclaredName, Names};
 use crate::types::{Variable, end_bit, round_up};
-use indexmap::IndexMap;
-use indexmap::map::Slice;
 use std::alloc::Global;
 use std::marker::Model;
 
@@ -34,21 +33,21 @@ pub struct Declaration {
 /// elements; the bit behind the last; and the first values in the order in which they are written.
 #[derive(Drop)]
 pub struct Layout {
-    names: IndexMap<Vec<u8>, Variable>,
+    names: Names,
     end: u64,
     values: Vec<FirstValue>,
 }
 
 impl Model for Layout {
-    ghost use Rattle.std.specs.Prelude.{map, ◌<◌, ◌^◌};
-    ghost use Rattle.stl_decl.specs.Layout.{Section, named};
+    ghost use Rattle.std.specs.Prelude.{◌<◌, ◌^◌};
+    ghost use Rattle.stl_decl.specs.Layout.{Section};
     ghost use Rattle.stl_decl.specs.Laid.{AreLaid};
 
     ghost Value = { Section };
 
-    ghost view = { λ l. record { names = map named l.names.entries; end = l.end; values = l.values.items } };
+    ghost view = { λ l. record { names = l.names; end = l.end; values = l.values.items } };
 
-    ghost invariant = { λ l. (l.end < 2 ^ 62) × AreLaid 0 (map named l.names.entries) l.end };
+    ghost invariant = { λ l. (l.end < 2 ^ 62) × AreLaid 0 l.names l.end };
 }
 
 impl Layout {
@@ -57,7 +56,7 @@ impl Layout {
         ensures { result ≡ empty_section }
     {
         Layout {
-            names: IndexMap::new(alloc),
+            names: Names::new(alloc),
             end: 0,
             values: Vec::new(alloc),
         }
@@ -67,12 +66,12 @@ impl Layout {
     pub fn variable(&self, name: &[u8]) -> Option<Variable>
         ensures { result ≡ variable_of self.now name.now }
     {
-        self.names.get(name).copied()
+        self.names.variable(name)
     }
 
     /// The names in order, each with what it stands for. Takes no memory.
-    pub fn names(&self) -> Slice<'_, Vec<u8>, Variable>
-        ensures names { map named result ≡ self.now.names }
+    pub fn names(&self) -> &[DeclaredName]
+        ensures names { map named result.now ≡ self.now.names }
         // each behind the one before, at the next place of its type
         ensures laid { AreLaid 0 self.now.names self.now.end }
         // no two overlap
@@ -116,7 +115,10 @@ impl Layout {
         let variable = declaration.variable;
         self.values
             .extend_from_slice(declaration.values.as_slice())?;
-        self.names.insert(declaration.name, variable)?;
+        self.names.push(DeclaredName {
+            name: declaration.name,
+            variable,
+        })?;
         self.end = end_bit(variable.shape, variable.first_bit);
         Ok(())
     }

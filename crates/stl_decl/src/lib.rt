@@ -9,6 +9,7 @@ mod grammar;
 mod initials;
 mod laws;
 mod layout;
+mod names;
 mod sections;
 mod steps;
 mod types;
@@ -20,6 +21,7 @@ pub use fault::{DeclError, Fault, FaultKind, StepError};
 pub use grammar::SectionKind;
 pub use laws::more_turns_read_the_same;
 pub use layout::{Declaration, FirstValue, Layout};
+pub use names::DeclaredName;
 pub use sections::{assignments_at, declarations, structure_at, temporaries_at};
 pub use steps::{
     SignedNumber, end_fault, fault_at, integer_at, is_pointer, is_sign, is_word, maybe_sign_at,
