@@ -8,14 +8,15 @@ use Rattle.s7_events.specs.declared.entry.Request.{Request}
 use Rattle.s7_events.specs.declared.entry.Answer.{Answer}
 use Rattle.s7_events.specs.declared.entry.StopCode.{StopCode}
 use Rattle.s7_base.specs.Blocks.{Code, Program, code_of}
+use Rattle.statement_effects.specs.declared.areas.Registers.{Registers}
 use Rattle.statement_effects.specs.State.{Memory}
 use Rattle.mc_machine.specs.Places.{Level, Fresh, Ticking, Timing, Retriggering, Place, AtOutputs, AtInputs, AtCycle, AtStop, Over, At}
 use Rattle.statement_effects.specs.declared.instruction.Flow.{Flow}
 use Rattle.statement_effects.specs.declared.instruction.Flow.TheVariants as flow
-use Rattle.statement_effects.specs.Areas.{with_registers}
+use Rattle.statement_effects.specs.Areas.{with_registers, data_length}
 use Rattle.statement_effects.specs.Levels.{with_start}
 use Rattle.statement_effects.specs.Effect.{effect_of}
-use Rattle.mc_machine.specs.Meaning.{State, Undefined, Rest, Meaning, Move, Goes, Calls, Begins, Reaction, Again, Completes, Turn, Asks, Moves, Halts, Leaves, Ends, statements_of, block_entered, error_entered, organisation_block, start_information, failed, begun, called, flows, stop_request, takes_at, answered, at_block_end, restored, resume, noting, moves, reacts, completed, took, asking, does, runs, turn_of, turn, body_within, left, body}
+use Rattle.mc_machine.specs.Meaning.{State, Undefined, Rest, Meaning, Move, Goes, Calls, Begins, Reaction, Again, Completes, Turn, Asks, Moves, Halts, Leaves, Ends, statements_of, block_entered, error_entered, organisation_block, start_information, failed, begun, called, called_instance, call_registers, instance_registers, flows, stop_request, takes_at, answered, at_block_end, restored, resume, noting, moves, reacts, completed, took, asking, does, runs, turn_of, turn, body_within, left, body}
 
 -- two continuations agree wherever no more is left than this
 pub record Agree (rest rest' : Rest) (bound : ℕ) : Type 0 where
@@ -73,13 +74,19 @@ counts_failed : (next : Place) (level : Level) (memory : Memory) (error since : 
 counts_failed next level memory error since lt (Ok inside) = lt
 counts_failed next level memory error since lt (Err code) = tt
 
-counts_begun : (next : Place) (level : Level) (memory : Memory) (callee : BlockRef) (since : ℕ) → since < 256 → (r : Result Memory StopCode) → Counts (begun next level memory callee r) since
-counts_begun next level memory callee since lt (Ok inside) = lt
-counts_begun next level memory callee since lt (Err code) = tt
+counts_begun : (next : Place) (level : Level) (memory : Memory) (registers : Registers) (callee : BlockRef) (since : ℕ) → since < 256 → (r : Result Memory StopCode) → Counts (begun next level memory registers callee r) since
+counts_begun next level memory registers callee since lt (Ok inside) = lt
+counts_begun next level memory registers callee since lt (Err code) = tt
 
 counts_called : (program : Program) (next : Place) (level : Level) (memory : Memory) (callee : BlockRef) (since : ℕ) → since < 256 → (r : Option Code) → Counts (called program next level memory callee r) since
 counts_called program next level memory callee since lt None = counts_failed next level memory 7 since lt (error_entered program level memory 7)
-counts_called program next level memory callee since lt (Some code) = counts_begun next level memory callee since lt (block_entered memory callee code)
+counts_called program next level memory callee since lt (Some code) = counts_begun next level memory (call_registers memory.registers) callee since lt (block_entered memory callee code)
+
+counts_instance : (program : Program) (next : Place) (level : Level) (memory : Memory) (callee : BlockRef) (number since : ℕ) → since < 256 → (r : Option Code) (size : Option ℕ) → Counts (called_instance program next level memory callee number r size) since
+counts_instance program next level memory callee number since lt None size = counts_failed next level memory 7 since lt (error_entered program level memory 7)
+counts_instance program next level memory callee number since lt (Some code) None = counts_failed next level memory 8 since lt (error_entered program level memory 8)
+counts_instance program next level memory callee number since lt (Some code) (Some size) =
+    counts_begun next level memory (instance_registers memory.registers number) callee since lt (block_entered memory callee code)
 
 counts_flows : (program : Program) (block : BlockRef) (at : ℕ) (level : Level) (since : ℕ) (memory : Memory) → since < 256 → (to : Flow) → Counts (flows program block at level memory to) since
 counts_flows program block at level since memory lt flow.Next = lt
@@ -88,7 +95,7 @@ counts_flows program block at level since memory lt (flow.Among number target) =
 counts_flows program block at level since memory lt (flow.Call callee) =
     counts_called program (At block (at + 1) level Fresh) level memory callee since lt (code_of program callee.kind callee.number)
 counts_flows program block at level since memory lt (flow.CallInstance callee number) =
-    counts_called program (At block (at + 1) level Fresh) level memory callee since lt (code_of program callee.kind callee.number)
+    counts_instance program (At block (at + 1) level Fresh) level memory callee number since lt (code_of program callee.kind callee.number) (data_length memory number)
 counts_flows program block at level since memory lt flow.End = lt
 counts_flows program block at level since memory lt (flow.Fail error) =
     counts_failed (At block (at + 1) level Fresh) level memory error since lt (error_entered program level memory error)

@@ -9,7 +9,9 @@ use Rattle.s7_events.specs.declared.entry.Ask.TheVariants as asks
 use Rattle.s7_events.specs.declared.entry.Request.{Request}
 use Rattle.s7_events.specs.declared.entry.StopCode.{StopCode}
 use Rattle.s7_base.specs.Blocks.{Code, Program, code_of}
+use Rattle.statement_effects.specs.declared.areas.Registers.{Registers}
 use Rattle.statement_effects.specs.State.{Memory}
+use Rattle.statement_effects.specs.Areas.{data_length}
 use Rattle.mc_machine.specs.Places.{Level, Mode, Fresh, Ticking, Timing, Retriggering, Place, AtOutputs, AtInputs, AtCycle, AtStop, Over, At, Frame}
 use Rattle.statement_effects.specs.declared.instruction.Flow.{Flow}
 use Rattle.statement_effects.specs.declared.instruction.Flow.TheVariants as flow
@@ -17,7 +19,7 @@ use Rattle.statement_effects.specs.Effect.{effect_of, effect_if, asks_first}
 use Rattle.statement_effects.specs.Reading.{instruction_of}
 use Rattle.statement_effects.specs.declared.instruction.Instruction.{Instruction}
 use Rattle.std.specs.Option.{option_map}
-use Rattle.mc_machine.specs.Meaning.{Turn, Asks, Moves, Halts, Leaves, Ends, Goes, Calls, Begins, statements_of, block_entered, error_entered, failed, begun, called, flows, runs, turn_of, request_of, stop_request}
+use Rattle.mc_machine.specs.Meaning.{Turn, Asks, Moves, Halts, Leaves, Ends, Goes, Calls, Begins, statements_of, block_entered, error_entered, failed, begun, called, called_instance, call_registers, instance_registers, flows, runs, turn_of, request_of, stop_request}
 use Rattle.mc_machine.specs.Stands.{Config, Follows, AsksAt, IsAsked, IsAskedAt, IsTurned, halts_with, IsHigh, AreStacked, AreBegun, IsSound}
 use Rattle.level_stack.specs.Levels.{LevelState, ended, block_counts}
 use Rattle.mc_machine.proofs.Begun.{no_level, one_less, main_over, same_begun}
@@ -26,13 +28,19 @@ asked_failed : (next : Place) (level : Level) (memory : Memory) (error : ℕ) (r
 asked_failed next level memory error r (Ok inside) e = cc
 asked_failed next level memory error r (Err code) e = cc
 
-asked_begun : (next : Place) (level : Level) (memory : Memory) (callee : BlockRef) (r : Request) (o : Result Memory StopCode) → begun next level memory callee o ≡ Asks r → ⊥
-asked_begun next level memory callee r (Ok inside) e = cc
-asked_begun next level memory callee r (Err code) e = cc
+asked_begun : (next : Place) (level : Level) (memory : Memory) (registers : Registers) (callee : BlockRef) (r : Request) (o : Result Memory StopCode) → begun next level memory registers callee o ≡ Asks r → ⊥
+asked_begun next level memory registers callee r (Ok inside) e = cc
+asked_begun next level memory registers callee r (Err code) e = cc
 
 asked_called : (program : Program) (next : Place) (level : Level) (memory : Memory) (callee : BlockRef) (r : Request) (o : Option Code) → called program next level memory callee o ≡ Asks r → ⊥
 asked_called program next level memory callee r None e = asked_failed next level memory 7 r (error_entered program level memory 7) e
-asked_called program next level memory callee r (Some code) e = asked_begun next level memory callee r (block_entered memory callee code) e
+asked_called program next level memory callee r (Some code) e = asked_begun next level memory (call_registers memory.registers) callee r (block_entered memory callee code) e
+
+asked_instance : (program : Program) (next : Place) (level : Level) (memory : Memory) (callee : BlockRef) (number : ℕ) (r : Request) (o : Option Code) (size : Option ℕ) → called_instance program next level memory callee number o size ≡ Asks r → ⊥
+asked_instance program next level memory callee number r None size e = asked_failed next level memory 7 r (error_entered program level memory 7) e
+asked_instance program next level memory callee number r (Some code) None e = asked_failed next level memory 8 r (error_entered program level memory 8) e
+asked_instance program next level memory callee number r (Some code) (Some size) e =
+    asked_begun next level memory (instance_registers memory.registers number) callee r (block_entered memory callee code) e
 
 asked_flow : (program : Program) (block : BlockRef) (at : ℕ) (level : Level) (memory : Memory) (r : Request) (to : Flow) → flows program block at level memory to ≡ Asks r → IsAskedAt (At block at level Fresh) r.ask
 asked_flow program block at level memory r flow.Next e = absurd cc
@@ -41,7 +49,7 @@ asked_flow program block at level memory r (flow.Among number target) e = absurd
 asked_flow program block at level memory r (flow.Call callee) e =
     absurd (asked_called program (At block (at + 1) level Fresh) level memory callee r (code_of program callee.kind callee.number) e)
 asked_flow program block at level memory r (flow.CallInstance callee number) e =
-    absurd (asked_called program (At block (at + 1) level Fresh) level memory callee r (code_of program callee.kind callee.number) e)
+    absurd (asked_instance program (At block (at + 1) level Fresh) level memory callee number r (code_of program callee.kind callee.number) (data_length memory number) e)
 asked_flow program block at level memory r flow.End e = absurd cc
 asked_flow program block at level memory r (flow.Fail error) e =
     absurd (asked_failed (At block (at + 1) level Fresh) level memory error r (error_entered program level memory error) e)
@@ -199,13 +207,19 @@ changed_failed : (c c' : Config) (next : Place) (level : Level) (memory : Memory
 changed_failed c c' next level memory error o (Ok inside) f = f
 changed_failed c c' next level memory error o (Err code) f = f
 
-changed_begun : (c c' : Config) (next : Place) (level : Level) (memory : Memory) (callee : BlockRef) (o : Option Request) (r : Result Memory StopCode) → Follows (begun next level memory callee r) (record c { memory = memory }) o c' → Follows (begun next level memory callee r) c o c'
-changed_begun c c' next level memory callee o (Ok inside) f = f
-changed_begun c c' next level memory callee o (Err code) f = f
+changed_begun : (c c' : Config) (next : Place) (level : Level) (memory : Memory) (registers : Registers) (callee : BlockRef) (o : Option Request) (r : Result Memory StopCode) → Follows (begun next level memory registers callee r) (record c { memory = memory }) o c' → Follows (begun next level memory registers callee r) c o c'
+changed_begun c c' next level memory registers callee o (Ok inside) f = f
+changed_begun c c' next level memory registers callee o (Err code) f = f
 
 changed_called : (program : Program) (c c' : Config) (next : Place) (level : Level) (memory : Memory) (callee : BlockRef) (o : Option Request) (r : Option Code) → Follows (called program next level memory callee r) (record c { memory = memory }) o c' → Follows (called program next level memory callee r) c o c'
 changed_called program c c' next level memory callee o None f = changed_failed c c' next level memory 7 o (error_entered program level memory 7) f
-changed_called program c c' next level memory callee o (Some code) f = changed_begun c c' next level memory callee o (block_entered memory callee code) f
+changed_called program c c' next level memory callee o (Some code) f = changed_begun c c' next level memory (call_registers memory.registers) callee o (block_entered memory callee code) f
+
+changed_instance : (program : Program) (c c' : Config) (next : Place) (level : Level) (memory : Memory) (callee : BlockRef) (number : ℕ) (o : Option Request) (r : Option Code) (size : Option ℕ) → Follows (called_instance program next level memory callee number r size) (record c { memory = memory }) o c' → Follows (called_instance program next level memory callee number r size) c o c'
+changed_instance program c c' next level memory callee number o None size f = changed_failed c c' next level memory 7 o (error_entered program level memory 7) f
+changed_instance program c c' next level memory callee number o (Some code) None f = changed_failed c c' next level memory 8 o (error_entered program level memory 8) f
+changed_instance program c c' next level memory callee number o (Some code) (Some size) f =
+    changed_begun c c' next level memory (instance_registers memory.registers number) callee o (block_entered memory callee code) f
 
 -- what follows the changed memory follows the place
 changed : (program : Program) (c c' : Config) (block : BlockRef) (at : ℕ) (level : Level) (memory : Memory) (o : Option Request) (to : Flow) → (asks_first to ≡ true → memory ≡ c.memory) → Follows (flows program block at level memory to) (record c { memory = memory }) o c' → Follows (flows program block at level memory to) c o c'
@@ -215,7 +229,7 @@ changed program c c' block at level memory o (flow.Among number target) u f = f
 changed program c c' block at level memory o (flow.Call callee) u f =
     changed_called program c c' (At block (at + 1) level Fresh) level memory callee o (code_of program callee.kind callee.number) f
 changed program c c' block at level memory o (flow.CallInstance callee number) u f =
-    changed_called program c c' (At block (at + 1) level Fresh) level memory callee o (code_of program callee.kind callee.number) f
+    changed_instance program c c' (At block (at + 1) level Fresh) level memory callee number o (code_of program callee.kind callee.number) (data_length memory number) f
 changed program c c' block at level memory o flow.End u f = f
 changed program c c' block at level memory o (flow.Fail error) u f =
     changed_failed c c' (At block (at + 1) level Fresh) level memory error o (error_entered program level memory error) f

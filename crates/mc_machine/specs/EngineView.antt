@@ -40,7 +40,7 @@ place_of (spots.At spot) = At spot.block spot.at (level_in spot.level) (mode_of 
 
 abbrev pub kept_of : Returns → Registers → Kept
 kept_of returns.Whole registers = Whole registers
-kept_of returns.Brackets registers = Brackets registers.unit
+kept_of returns.Brackets registers = Brackets registers.unit registers.«data»
 
 abbrev pub frame_of : StoredFrame → Frame
 frame_of frame = record { place = place_of frame.spot; kept = kept_of frame.returns frame.kept }

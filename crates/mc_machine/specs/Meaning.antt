@@ -35,7 +35,7 @@ use Rattle.statement_effects.specs.declared.instruction.Instruction.{Instruction
 use Rattle.statement_effects.specs.declared.instruction.Instruction.TheVariants.{Timed, Retrigger}
 use Rattle.statement_effects.specs.declared.instruction.Flow.{Flow}
 use Rattle.statement_effects.specs.declared.instruction.Flow.TheVariants as flow
-use Rattle.statement_effects.specs.Areas.{clear_registers, with_registers, with_status, start_memory}
+use Rattle.statement_effects.specs.Areas.{clear_registers, with_registers, with_status, data_length, start_memory}
 use Rattle.statement_effects.specs.Reading.{instruction_of}
 use Rattle.statement_effects.specs.TimerEffect.{effect_timed}
 use Rattle.statement_effects.specs.Effect.{effect_of}
@@ -193,9 +193,9 @@ error_entered program level memory error =
     if level.in_error then Err stops.InError
     else entered_if (no_error_ob error) memory (error_block error) (code_of program Ob (error_ob error))
 
--- an error OB begins with the accumulators of the block that failed
+-- an error OB begins with the accumulators of the block that failed, and with the data blocks that it had opened
 abbrev pub error_registers : Registers → Registers
-error_registers registers = record clear_registers { accus = registers.accus }
+error_registers registers = record clear_registers { accus = registers.accus; «data» = registers.«data» }
 
 -- a statement failed: a diagnostic entry is made, and the error OB begins, or the CPU asks to stop
 abbrev pub failed : Place → Level → Memory → ℕ → Result Memory StopCode → Turn
@@ -210,23 +210,42 @@ fails program next level memory error = failed next level memory error (error_en
 
 -- calls --
 
--- a called block begins with the status row of a call, no group and no zone open, and the MCR not active
+-- a called block begins with the status row of a call, no group and no zone open, the MCR not active, and the data blocks that are
+-- opened
 abbrev pub call_registers : Registers → Registers
 call_registers registers = record registers { status = effect_end registers.status; unit = cleared_unit }
 
--- a called block begins, and at its end another place goes on; or there is no depth or local data left, and the CPU asks to stop
-abbrev pub begun : Place → Level → Memory → BlockRef → Result Memory StopCode → Turn
-begun next level memory callee (Err code) = Halts None memory code
-begun next level memory callee (Ok inside) =
-    Moves None (Calls (with_registers inside (call_registers memory.registers)) (At callee 0 level Fresh) (record { place = next; kept = Brackets memory.registers.unit }))
+-- a function block that is called with a data block begins with that opened as DI
+abbrev pub instance_registers : Registers → ℕ → Registers
+instance_registers registers number =
+    record (call_registers registers) { «data» = record registers.«data» { instance = Some number } }
+
+-- a called block begins with some registers, and at its end another place goes on; or there is no depth or local data left, and the
+-- CPU asks to stop
+abbrev pub begun : Place → Level → Memory → Registers → BlockRef → Result Memory StopCode → Turn
+begun next level memory registers callee (Err code) = Halts None memory code
+begun next level memory registers callee (Ok inside) =
+    Moves None
+    (Calls (with_registers inside registers) (At callee 0 level Fresh) (record { place = next; kept = Brackets memory.registers.unit memory.registers.«data» }))
 
 -- a block is called, at whose end another place goes on; one that is not loaded is error 7
 abbrev pub called : Program → Place → Level → Memory → BlockRef → Option Code → Turn
 called program next level memory callee None = fails program next level memory 7
-called program next level memory callee (Some code) = begun next level memory callee (block_entered memory callee code)
+called program next level memory callee (Some code) = begun next level memory (call_registers memory.registers) callee (block_entered memory callee code)
 
 abbrev pub calls : Program → Place → Level → Memory → BlockRef → Turn
 calls program next level memory callee = called program next level memory callee (code_of program callee.kind callee.number)
+
+-- a function block is called with a data block; one that is not loaded is error 7, and a data block that is not loaded error 8
+abbrev pub called_instance : Program → Place → Level → Memory → BlockRef → ℕ → Option Code → Option ℕ → Turn
+called_instance program next level memory callee number None size = fails program next level memory 7
+called_instance program next level memory callee number (Some code) None = fails program next level memory 8
+called_instance program next level memory callee number (Some code) (Some size) =
+    begun next level memory (instance_registers memory.registers number) callee (block_entered memory callee code)
+
+abbrev pub calls_instance : Program → Place → Level → Memory → BlockRef → ℕ → Turn
+calls_instance program next level memory callee number =
+    called_instance program next level memory callee number (code_of program callee.kind callee.number) (data_length memory number)
 
 -- the statements --
 
@@ -236,7 +255,7 @@ flows program block at level memory flow.Next = Moves None (Goes memory (At bloc
 flows program block at level memory (flow.Jump target) = Moves None (Goes memory (At block target level Fresh))
 flows program block at level memory (flow.Among number target) = Moves None (Goes memory (At block (jump_among at number target) level Fresh))
 flows program block at level memory (flow.Call callee) = calls program (At block (at + 1) level Fresh) level memory callee
-flows program block at level memory (flow.CallInstance callee number) = calls program (At block (at + 1) level Fresh) level memory callee
+flows program block at level memory (flow.CallInstance callee number) = calls_instance program (At block (at + 1) level Fresh) level memory callee number
 flows program block at level memory flow.End = Moves None (Goes memory (At block (length (statements_of program block)) level Fresh))
 flows program block at level memory (flow.Fail error) = fails program (At block (at + 1) level Fresh) level memory error
 flows program block at level memory flow.AskNow = Asks (request_of asks.Now level.priority)
@@ -412,7 +431,7 @@ at_block_end memory = with_status (without_block memory) (effect_end memory.regi
 -- the registers when what was kept comes back
 abbrev pub restored : Registers → Kept → Registers
 restored registers (Whole kept) = kept
-restored registers (Brackets unit) = record registers { unit = unit }
+restored registers (Brackets unit opened) = record registers { unit = unit; «data» = opened }
 
 -- a frame goes on, with what it kept
 abbrev pub resume : Meaning → Frame → Rest → Rest

@@ -3,6 +3,7 @@ use Rattle.std.specs.Prelude.{ℕ, Bool}
 use Rattle.s7_base.specs.declared.blocks.BlockRef.{BlockRef}
 use Rattle.s7_events.specs.declared.entry.StopCode.{StopCode}
 use Rattle.bit_unit.specs.State.{BitState}
+use Rattle.statement_effects.specs.declared.areas.DataRegisters.{DataRegisters}
 use Rattle.statement_effects.specs.declared.areas.Registers.{Registers}
 
 -- the level that a block runs on: its priority, and whether one of the blocks that have begun on it is an error OB
@@ -28,10 +29,10 @@ pub data Place : Type 0 where
   At : (block : BlockRef) (at : ℕ) (level : Level) (mode : Mode) → Place
 
 -- what comes back when a block ends: after an error OB all registers, and after a block that was called the open groups and
--- zones, and whether the MCR is active
+-- zones, whether the MCR is active, and which data blocks are opened
 pub data Kept : Type 0 where
   Whole : (registers : Registers) → Kept
-  Brackets : (unit : BitState) → Kept
+  Brackets : (unit : BitState) (opened : DataRegisters) → Kept
 
 -- where a CPU goes on when a block ends, and what comes back
 pub record Frame : Type 0 where

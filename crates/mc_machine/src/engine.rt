@@ -5,7 +5,7 @@ ghost use Rattle.std.specs.Option.{option_map};
 ghost use Rattle.s7_events.specs.declared.entry.Answer.{Answer};
 ghost use Rattle.s7_base.specs.declared.blocks.BlockRef.{BlockRef};
 ghost use Rattle.statement_effects.specs.Areas.{start_memory};
-ghost use Rattle.mc_machine.specs.Meaning.{error_registers, fails, begun, calls, turn_of, flows, jump_among, cycle_length, cycles_after, answered, takes, stops_cpu, begins_main, lost_note, again_mode, again, resumed, timed_at, retriggered_at, Leaves, Waits, std, request_of, stop_request};
+ghost use Rattle.mc_machine.specs.Meaning.{error_registers, fails, begun, calls, calls_instance, turn_of, flows, jump_among, cycle_length, cycles_after, answered, takes, stops_cpu, begins_main, lost_note, again_mode, again, resumed, timed_at, retriggered_at, Leaves, Waits, std, request_of, stop_request};
 ghost use Rattle.mc_machine.specs.Stands.{Running, state_of, newest, with_newest, start_config, StandsFor, IsMoved, IsTurned, halts_with, Reacts, Follows, register_head, register_bytes, IsHigh, AreStacked, AreBegun, IsSound, IsValid, IsAskedAt, AsksAt, Keeps, IsTaken, IsDated, IsAsked, GoesOn};
 ghost use Rattle.mc_machine.specs.Places.{AtInputs, AtStop, Over, At, Fresh};
 ghost use Rattle.mc_machine.specs.EngineView.{level_in, mode_of, place_of, frame_of, config_of, running_of, decoded_codes, gone_to, IsCode, IsIndexed, AreIndexed, AreFound, IsStored};
@@ -16,7 +16,8 @@ mod starts;
 use crate::codes::{decoded_at, end_of, instruction_in};
 use crate::index::CodeIndex;
 use crate::levels::{
-    call_registers, enter_block, enter_error_ob, enter_main, error_ob, error_registers, restored,
+    call_registers, enter_block, enter_error_ob, enter_main, error_ob, error_registers,
+    instance_registers, restored,
 };
 use crate::places::{BlockSpot, Cause, Frame, Level, Mode, Returns, Spot};
 use arrayvec::ArrayVec;
@@ -52,6 +53,9 @@ pub struct Engine {
 
 /// The error of a block that is called and is not loaded.
 const NOT_LOADED: u8 = 7;
+
+/// The error of a data block that is not loaded.
+const NO_DATA_BLOCK: u8 = 8;
 
 /// The priority of a request to stop.
 const STOP_PRIORITY: u8 = 30;
@@ -599,8 +603,9 @@ impl Engine {
             Flow::Jump(target) => target as usize,
             Flow::Among { number, target } => jump_among(spot.at, number, target),
             Flow::End => end_of(&self.program, spot),
-            Flow::Call(callee) | Flow::CallInstance(callee, _) => {
-                return self.call(callee, spot);
+            Flow::Call(callee) => return self.call(callee, spot),
+            Flow::CallInstance(callee, number) => {
+                return self.call_instance(callee, number, spot);
             }
             Flow::Fail(error) => return self.fail_statement(error, spot),
             Flow::AskNow => return self.wait_at(block_request(Ask::Now, spot.level)),
@@ -708,7 +713,10 @@ impl Engine {
             return self.fail_statement(NOT_LOADED, spot);
         };
         match enter_block(&mut self.memory, callee, code) {
-            Ok(()) => self.begin_called(callee, spot),
+            Ok(()) => {
+                let inside = call_registers(&self.memory.registers());
+                self.begin_called(callee, spot, inside)
+            }
             Err(code) => {
                 self.spot = Spot::AtStop(code);
                 self.wait_at(stop_request(code));
@@ -716,8 +724,41 @@ impl Engine {
         }
     }
 
-    /// A block that is called begins, once it has its local data.
-    fn begin_called(&mut self, callee: BlockRef, spot: BlockSpot)
+    /// A function block is called with the data block of a number, which is opened as DI. The statement is completed where
+    /// the block begins, or where one of them is not loaded and the error OB begins.
+    #[tactic(auto, using(crate::proofs::Begun::has_level))]
+    fn call_instance(&mut self, callee: BlockRef, number: u8, spot: BlockSpot)
+        requires sound { IsSound (config_of self.old) }
+        requires stored { IsStored self.old }
+        requires ready { self.old.waits ≡ None }
+        requires here { IsHigh (length (config_of self.old).frames) (At spot.block spot.at (level_in spot.level) Fresh) }
+        requires code { IsCode self.old.program spot.code spot.block }
+        requires before { self.old.since < 256 }
+        requires within { spot.at + 1 < 2 ^ 64 }
+        ensures turned { Follows (calls_instance self.old.program (At spot.block (spot.at + 1) (level_in spot.level) Fresh) (level_in spot.level) self.old.memory callee number) (config_of self.old) self.new.waits (config_of self.new) }
+        ensures sound { IsSound (config_of self.new) }
+        ensures stored { IsStored self.new }
+    {
+        let Some(code) = self.index.code(&self.program, callee) else {
+            return self.fail_statement(NOT_LOADED, spot);
+        };
+        if self.memory.data_length(number).is_none() {
+            return self.fail_statement(NO_DATA_BLOCK, spot);
+        }
+        match enter_block(&mut self.memory, callee, code) {
+            Ok(()) => {
+                let inside = instance_registers(&self.memory.registers(), number);
+                self.begin_called(callee, spot, inside)
+            }
+            Err(code) => {
+                self.spot = Spot::AtStop(code);
+                self.wait_at(stop_request(code));
+            }
+        }
+    }
+
+    /// A block that is called begins with some registers, once it has its local data.
+    fn begin_called(&mut self, callee: BlockRef, spot: BlockSpot, inside: Registers)
         requires stacked { AreStacked 0 (config_of self.old).frames }
         requires begun { AreBegun (length (config_of self.old).frames + 1) self.old.memory.levels }
         requires room { length (config_of self.old).frames < 24 }
@@ -727,7 +768,7 @@ impl Engine {
         requires code { IsCode self.old.program spot.code spot.block }
         requires before { self.old.since < 256 }
         requires within { spot.at + 1 < 2 ^ 64 }
-        ensures turned { Follows (begun (At spot.block (spot.at + 1) (level_in spot.level) Fresh) (level_in spot.level) self.old.memory callee (Ok self.old.memory)) (config_of self.old) self.new.waits (config_of self.new) }
+        ensures turned { Follows (begun (At spot.block (spot.at + 1) (level_in spot.level) Fresh) (level_in spot.level) self.old.memory inside callee (Ok self.old.memory)) (config_of self.old) self.new.waits (config_of self.new) }
         ensures sound { IsSound (config_of self.new) }
         ensures stored { IsStored self.new }
     {
@@ -737,7 +778,7 @@ impl Engine {
             kept: registers,
             returns: Returns::Brackets,
         };
-        self.memory.set_registers(call_registers(&registers));
+        self.memory.set_registers(inside);
         self.begin(callee, spot.level, frame);
         self.since += 1;
     }

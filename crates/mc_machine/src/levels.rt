@@ -3,7 +3,7 @@ ghost use Rattle.std.specs.Prelude.{◌≡◌, ◌<◌, ◌≤◌, [], length, O
 ghost use Rattle.s7_base.specs.declared.blocks.CodeKind.{CodeKind};
 ghost use Rattle.s7_base.specs.Blocks.{code_of};
 ghost use Rattle.level_stack.specs.Levels.{running_locals};
-ghost use Rattle.mc_machine.specs.Meaning.{local_bytes_of, local_bytes_in, stop_of, block_entered, startup_entered, main_entered, error_ob, no_error_ob, error_entered, error_registers, call_registers, restored, start_byte, start_value, start_moment};
+ghost use Rattle.mc_machine.specs.Meaning.{local_bytes_of, local_bytes_in, stop_of, block_entered, startup_entered, main_entered, error_ob, no_error_ob, error_entered, error_registers, call_registers, instance_registers, restored, start_byte, start_value, start_moment};
 ghost use Rattle.mc_machine.specs.Stands.{AreBegun, IsDeeper};
 ghost use Rattle.mc_machine.specs.EngineView.{level_in, kept_of, AreFound};
 
@@ -201,6 +201,7 @@ pub fn error_registers(registers: &Registers) -> Registers
 {
     let mut inside = Registers::clear();
     inside.accus = registers.accus;
+    inside.data = registers.data;
     inside
 }
 
@@ -214,6 +215,15 @@ pub fn call_registers(registers: &Registers) -> Registers
     inside
 }
 
+/// The registers with which a function block begins that is called with the data block of a number.
+pub fn instance_registers(registers: &Registers, number: u8) -> Registers
+    ensures { result ≡ instance_registers registers.now number }
+{
+    let mut inside = call_registers(registers);
+    inside.data.instance = Some(number);
+    inside
+}
+
 /// The registers when a frame goes on, with what comes back of those that it kept.
 pub fn restored(registers: &Registers, frame: &Frame) -> Registers
     ensures { result ≡ restored registers.now (kept_of frame.now.returns frame.now.kept) }
@@ -222,6 +232,7 @@ pub fn restored(registers: &Registers, frame: &Frame) -> Registers
         Returns::Whole => frame.kept,
         Returns::Brackets => Registers {
             unit: frame.kept.unit,
+            data: frame.kept.data,
             ..*registers
         },
     }

@@ -65,7 +65,7 @@ pub enum Returns {
     /// After an error OB: all of them.
     #[default]
     Whole,
-    /// After a block that was called: the open groups and zones, and whether the MCR is active.
+    /// After a block that was called: the open groups and zones, whether the MCR is active, and which data blocks are opened.
     Brackets,
 }
 
