@@ -218,7 +218,6 @@ takes_all (kinds.SystemFunction number) op = takes op operands.SystemFunction
 takes_all kinds.DataBlock op = takes op (operands.DataBlock 0)
 takes_all kinds.InstanceBlock op = takes op (operands.InstanceBlock 0)
 takes_all kinds.FunctionBlockWithData op = takes op (operands.BlockWithData (record { kind = Fb; number = 0 }) 0)
-takes_all _ op = false
 
 -- only the form of the operand decides --
 
