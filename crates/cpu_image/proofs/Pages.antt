@@ -1,5 +1,5 @@
 -- The pages of areas, and of data blocks of which one was written.
-use Rattle.std.proofs.Common.{◌≡◌, ℕ, ◌+◌, ◌/◌, ◌<◌, ◌≤◌, List, length, take, drop, ◌++◌, Option, Some, None, length-take, refl, sym, ap, ◌∙◌, arith, inl, inr}
+use Rattle.std.proofs.Common.{◌≡◌, ℕ, zero, suc, ◌+◌, ◌-◌, ◌/◌, ◌<◌, ◌≤◌, Bool, List, [], ◌∷◌, length, take, drop, ◌++◌, Option, Some, None, length-take, refl, sym, ap, ◌∙◌, arith, inl, inr}
 use Rattle.std.specs.Prelude.{slice_index, slice_index_or, slice_set}
 use Rattle.std.proofs.lemmas.List.{length-take-le, length-drop, length-append, take-set-le, get_or-take, get_or_past, get_or-set_same, get_or-set_other, length-set}
 use Rattle.std.proofs.Math.Seq.{take-set-lt}
@@ -8,8 +8,8 @@ use Rattle.std.proofs.lemmas.List.Sums.{sum_by-set, sum_by_more, sum_by_more_le}
 use Rattle.cpu_image.specs.declared.area.ByteArea.{ByteArea}
 use Rattle.cpu_image.specs.declared.area.ByteArea.TheVariants.{I, Q, M, Db}
 use Rattle.cpu_image.specs.Values.{overwritten}
-use Rattle.cpu_image.specs.Image.{Image, bytes_in, area_bytes}
-use Rattle.cpu_image.specs.Pages.{pages_of, data_pages, page_of, HasSizes}
+use Rattle.cpu_image.specs.Image.{Image, bytes_in, area_bytes, with_bytes}
+use Rattle.cpu_image.specs.Pages.{pages_of, data_pages, page_of, HasSizes, with_mark, written}
 
 pub length_overwritten : (bytes : List ℕ) (from : ℕ) (piece : List ℕ) → from + length piece ≤ length bytes → length (overwritten bytes from piece) ≡ length bytes
 length_overwritten bytes from piece h =
@@ -87,3 +87,23 @@ pages_go_on blocks firsts number page count lt lt2 is h =
 -- the sum so far and the next data block are within the whole
 pub pages_within : (blocks : List (Option (List ℕ))) (number : ℕ) → number < length blocks → data_pages (take number blocks) + pages_of (slice_index_or blocks number None) ≤ data_pages blocks
 pages_within blocks number lt = sum_by_more_le pages_of blocks number None lt
+
+-- one byte that is written anew
+pub one_byte : (bytes : List ℕ) (at byte : ℕ) → at < length bytes → overwritten bytes at (byte ∷ []) ≡ slice_set bytes at byte
+one_byte [] at byte lt = absurd (omega arith)
+one_byte (b ∷ bs) zero byte lt = refl
+one_byte (b ∷ bs) (suc at) byte lt =
+    let next : suc at + 1 ≡ suc (at + 1) = omega arith in
+    ap (λ k. take (suc at) (b ∷ bs) ++ byte ∷ [] ++ drop k (b ∷ bs)) next ∙ ap (λ l. b ∷ l) (one_byte bs at byte (omega arith))
+
+-- a mark that is set twice
+mark_again : (marks : List Bool) (page : ℕ) → with_mark (with_mark marks page) page ≡ with_mark marks page
+mark_again [] page = refl
+mark_again (mark ∷ marks) zero = refl
+mark_again (mark ∷ marks) (suc page) = ap (λ l. mark ∷ l) (mark_again marks page)
+
+pub byte_written : (image : Image) (area : ByteArea) (at byte : ℕ) → record (with_bytes image area (overwritten (area_bytes image area) at (byte ∷ []))) { marks = with_mark image.marks (page_of image area at) } ≡ written area at (byte ∷ []) image
+byte_written image area at byte =
+    let made : List Bool → Image = λ marks. record (with_bytes image area (overwritten (area_bytes image area) at (byte ∷ []))) { marks = marks } in
+    let same : at + 1 - 1 ≡ at = omega arith in
+    sym (ap made (ap (λ k. with_mark (with_mark image.marks (page_of image area at)) (page_of image area k)) same ∙ mark_again image.marks (page_of image area at)))

@@ -184,7 +184,7 @@ impl CpuImage {
         ensures written { OnOk result (self.new ≡ bit_written area at_byte bit value self.old) }
     {
         let byte = self.byte(area, at_byte)?;
-        self.put(area, at_byte, &[byte_with(byte, bit, value)]);
+        self.put_byte(area, at_byte, byte_with(byte, bit, value));
         Ok(())
     }
 
@@ -281,6 +281,32 @@ impl CpuImage {
                 data.put(at, piece);
             }
         }
+    }
+
+    /// Writes a byte over one of an area. Its page is not marked.
+    #[tactic(auto, using(crate::proofs::Pages::one_byte))]
+    fn set_byte(&mut self, area: ByteArea, at: usize, byte: u8)
+        requires { at + 1 ≤ length (area_bytes self.old area) }
+        ensures { self.new ≡ with_bytes self.old area (overwritten (area_bytes self.old area) at (byte ∷ [])) }
+    {
+        match area {
+            ByteArea::I => self.inputs[at] = byte,
+            ByteArea::Q => self.outputs[at] = byte,
+            ByteArea::M => self.bit_memory[at] = byte,
+            ByteArea::Db(_) => self.put_bytes(area, at, &[byte]),
+        }
+    }
+
+    /// Writes a byte over one of an area, and marks its page.
+    #[tactic(auto, using(crate::proofs::Pages::byte_written))]
+    fn put_byte(&mut self, area: ByteArea, at_byte: u16, byte: u8)
+        requires { at_byte + 1 ≤ length (area_bytes self.old area) }
+        ensures { self.new ≡ written area at_byte (byte ∷ []) self.old }
+    {
+        let at = usize::from(at_byte);
+        let page = self.page_of(area, at);
+        self.set_byte(area, at, byte);
+        self.marks[page] = true;
     }
 
     /// Writes a piece over bytes of an area, and marks the pages of the first and of the last of them.
