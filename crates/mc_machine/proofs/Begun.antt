@@ -1,13 +1,13 @@
 -- As many blocks have begun as there are frames.
-use Rattle.std.proofs.Common.{◌≡◌, ℕ, suc, ◌+◌, ◌-◌, ◌<◌, ◌≤◌, nat_lt, true, Some, Result, Ok, Err, List, [], ◌∷◌, ◌++◌, length, take, refl, sym, ap, ◌∙◌, subst, arith, length-append}
-use Rattle.std.specs.Prelude.{map, ◌==◌, ◌&&◌, if◌then◌else◌, OnOk}
+use Rattle.std.proofs.Common.{◌≡◌, ℕ, ◌+◌, ◌-◌, ◌<◌, ◌≤◌, nat_lt, true, Some, Result, Ok, Err, List, [], ◌∷◌, ◌++◌, length, refl, sym, ap, ◌∙◌, subst, arith, length-append}
+use Rattle.std.specs.Prelude.{◌==◌, ◌&&◌, OnOk}
 use Rattle.std.proofs.lemmas.Bool.{cond_both, eqb-true, eqb-false, ltb-false, and_parts}
 use Rattle.std.proofs.lemmas.List.{length-take-le}
 use Rattle.s7_base.specs.declared.blocks.BlockRef.{BlockRef}
 use Rattle.s7_base.specs.declared.blocks.CodeKind.{CodeKind}
 use Rattle.s7_base.specs.declared.blocks.CodeKind.TheVariants.{Ob, Fb, Fc}
 use Rattle.s7_base.specs.Blocks.{Code, Program, same_kind, code_named, code_of}
-use Rattle.level_stack.specs.Levels.{LevelState, with_last, entered, left, ended, without_empty, without_last, running_frames, running_locals, block_counts}
+use Rattle.level_stack.specs.Levels.{LevelState, with_last, entered, ended, without_last, running_frames, running_locals, block_counts}
 use Rattle.level_stack.proofs.Running.{begins_with}
 use Rattle.statement_effects.specs.State.{Memory}
 use Rattle.statement_effects.specs.Levels.{with_level, with_block}

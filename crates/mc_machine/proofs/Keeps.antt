@@ -8,7 +8,7 @@ use Rattle.s7_events.specs.declared.diagnostics.DiagCode.{DiagCode}
 use Rattle.s7_base.specs.Blocks.{Program}
 use Rattle.diag_buffer.specs.declared.note.Note.{Note}
 use Rattle.statement_effects.specs.State.{Memory}
-use Rattle.mc_machine.specs.Places.{Place, AtOutputs, AtStop, Over, At, Fresh, Frame}
+use Rattle.mc_machine.specs.Places.{Place, AtStop, Over, At, Fresh, Frame}
 use Rattle.mc_machine.specs.Meaning.{State, Waits, Stopped, Undefined, Rest, Move, Goes, Calls, Begins, Reaction, Again, Completes, Turn, Asks, Moves, Halts, Leaves, Ends, with_note, organisation_block, start_information, stop_request, at_block_end, resume, moves, reacts, cycles_after, took, does, body, turn_of, takes, is_dated, takes_at, answered, never, starts, start_notes, std}
 use Rattle.statement_effects.specs.Areas.{start_memory}
 use Rattle.statement_effects.specs.Levels.{with_start}
