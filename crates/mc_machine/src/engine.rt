@@ -652,8 +652,9 @@ impl Engine {
             error,
         ) {
             Ok(()) => {
+                let behind = spot.at + 1;
                 let frame = Frame {
-                    spot: at_statement(spot, spot.at + 1),
+                    spot: at_statement(spot, behind),
                     kept: registers,
                     returns: Returns::Whole,
                 };
