@@ -82,6 +82,9 @@ fn operand_of(text: &str) -> Option<(u8, u8, u32)> {
     if let Some(digits) = text.strip_prefix("D#") {
         return Some((12, 0, u32::from_str_radix(digits, 16).ok()?));
     }
+    if let Some(number) = text.strip_prefix("SFC ") {
+        return Some((18, 0, number.parse::<u32>().ok()?));
+    }
     if let Some(number) = text.strip_prefix("@") {
         return Some((13, 0, number.parse::<u32>().ok()?));
     }

@@ -186,3 +186,36 @@ fn a_start_may_fail_after_its_answer(rt: HostRuntime) -> Result<(), Fail> {
     assert_notes(&rt, &machine, &notes);
     Ok(())
 }
+
+#[test]
+fn system_functions_ask(rt: HostRuntime) -> Result<(), Fail> {
+    let mut machine = machine_of(
+        rt.alloc(),
+        "SET;CALL SFC 43;= M0.0;L STW;T MW2",
+        "CALL SFC 46",
+    )?;
+    begin(&rt, &mut machine, [0; 64]);
+    let retrigger = Request {
+        prio: 1,
+        ask: Ask::Retrigger,
+    };
+    let stop = Request {
+        prio: 30,
+        ask: Ask::Stop(StopCode::Sfc46),
+    };
+    assert_eq!(rt; give(&rt, &mut machine, LOST, 2), retrigger);
+    assert_eq!(rt; give(&rt, &mut machine, Answer::Done, 3), retrigger);
+    assert_eq!(rt; give(&rt, &mut machine, LOST, 4), stop);
+    assert_eq!(rt; machine.image_byte(Area::Registers, 11), Some(0));
+    assert_eq!(rt; give(&rt, &mut machine, Answer::Done, 5), stop);
+    assert!(rt; machine.stopped());
+    assert_eq!(rt; machine.image_byte(Area::M, 0), Some(1));
+    let notes = [
+        (0, DiagCode::Start),
+        (2, DiagCode::LostSuspect(Side::B)),
+        (4, DiagCode::LostSuspect(Side::B)),
+        (5, DiagCode::Stop(StopCode::Sfc46)),
+    ];
+    assert_notes(&rt, &machine, &notes);
+    Ok(())
+}
