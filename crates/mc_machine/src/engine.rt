@@ -5,7 +5,8 @@ ghost use Rattle.std.specs.Option.{option_map};
 ghost use Rattle.s7_events.specs.declared.entry.Answer.{Answer};
 ghost use Rattle.s7_base.specs.declared.blocks.BlockRef.{BlockRef};
 ghost use Rattle.statement_effects.specs.Areas.{start_memory};
-ghost use Rattle.mc_machine.specs.Meaning.{error_registers, fails, begun, calls, calls_instance, turn_of, flows, jump_among, cycle_length, cycles_after, answered, takes, stops_cpu, begins_main, lost_note, again_mode, again, resumed, timed_at, retriggered_at, Leaves, Waits, std, request_of, stop_request};
+ghost use Rattle.level_stack.specs.Levels.{running_locals};
+ghost use Rattle.mc_machine.specs.Meaning.{error_registers, failed, fails, begun, calls, calls_instance, turn_of, flows, jump_among, cycle_length, cycles_after, answered, takes, stops_cpu, begins_main, lost_note, again_mode, again, resumed, timed_at, retriggered_at, Leaves, Waits, std, request_of, stop_request};
 ghost use Rattle.mc_machine.specs.Stands.{Running, state_of, newest, with_newest, start_config, StandsFor, IsMoved, IsTurned, halts_with, Reacts, Follows, register_head, register_bytes, IsHigh, AreStacked, AreBegun, IsSound, IsValid, IsAskedAt, AsksAt, Keeps, IsTaken, IsDated, IsAsked, GoesOn};
 ghost use Rattle.mc_machine.specs.Places.{AtInputs, AtStop, Over, At, Fresh};
 ghost use Rattle.mc_machine.specs.EngineView.{level_in, mode_of, place_of, frame_of, config_of, running_of, decoded_codes, gone_to, IsCode, IsIndexed, AreIndexed, AreFound, IsStored};
@@ -643,7 +644,6 @@ impl Engine {
         ensures going { (config_of self.new).place ≢ Over }
         ensures waits { self.new.waits ≡ self.old.waits }
     {
-        let registers = self.memory.registers();
         match enter_error_ob(
             &self.program,
             &self.index,
@@ -652,20 +652,7 @@ impl Engine {
             error,
         ) {
             Ok(()) => {
-                let behind = spot.at + 1;
-                let frame = Frame {
-                    spot: at_statement(spot, behind),
-                    kept: registers,
-                    returns: Returns::Whole,
-                };
-                let level = Level {
-                    priority: spot.level.priority,
-                    in_error: true,
-                };
-                self.memory.set_registers(error_registers(&registers));
-                let cause = Cause::StatementFailed(error);
-                self.begin_organisation_block(error_ob(error), level, cause, frame);
-                self.note(DiagCode::Error(error));
+                self.begin_error_ob(error, spot);
                 None
             }
             Err(code) => {
@@ -674,6 +661,39 @@ impl Engine {
                 Some(stop_request(code))
             }
         }
+    }
+
+    /// The OB of an error begins, once it has its local data; at its end the statement behind the one that failed follows.
+    fn begin_error_ob(&mut self, error: u8, spot: BlockSpot)
+        requires stacked { AreStacked 0 (config_of self.old).frames }
+        requires begun { AreBegun (length (config_of self.old).frames + 1) self.old.memory.levels }
+        requires local { 20 ≤ length (running_locals self.old.memory.levels) }
+        requires room { length (config_of self.old).frames < 24 }
+        requires stored { IsStored self.old }
+        requires here { IsHigh (length (config_of self.old).frames) (At spot.block spot.at (level_in spot.level) Fresh) }
+        requires code { IsCode self.old.program spot.code spot.block }
+        requires within { spot.at + 1 < 2 ^ 64 }
+        ensures failed { IsTurned (failed (At spot.block (spot.at + 1) (level_in spot.level) Fresh) (level_in spot.level) self.old.memory error (Ok self.old.memory)) (config_of self.old) self.old.since self.old.at (config_of self.new) }
+        ensures sound { IsSound (config_of self.new) }
+        ensures stored { IsStored self.new }
+        ensures going { (config_of self.new).place ≢ Over }
+        ensures waits { self.new.waits ≡ self.old.waits }
+    {
+        let registers = self.memory.registers();
+        let behind = spot.at + 1;
+        let frame = Frame {
+            spot: at_statement(spot, behind),
+            kept: registers,
+            returns: Returns::Whole,
+        };
+        let level = Level {
+            priority: spot.level.priority,
+            in_error: true,
+        };
+        self.memory.set_registers(error_registers(&registers));
+        let cause = Cause::StatementFailed(error);
+        self.begin_organisation_block(error_ob(error), level, cause, frame);
+        self.note(DiagCode::Error(error));
     }
 
     /// A statement fails. It is completed where its error OB begins.
