@@ -63,6 +63,16 @@ impl Levels {
         self.levels[self.levels.len() - 1].prio()
     }
 
+    /// Returns the priority of the level that runs. None where there is no level.
+    pub fn priority(&self) -> Option<u8>
+        ensures { result ≡ running_prio self.now }
+    {
+        if self.levels.is_empty() {
+            return None;
+        }
+        Some(self.top_prio())
+    }
+
     /// Returns how many blocks have begun on the level that runs, at most 24.
     pub fn depth(&self) -> usize
         requires { 0 < length self.now }

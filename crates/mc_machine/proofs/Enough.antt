@@ -14,7 +14,7 @@ use Rattle.mc_machine.specs.Places.{Level, Fresh, Ticking, Timing, Retriggering,
 use Rattle.statement_effects.specs.declared.instruction.Flow.{Flow}
 use Rattle.statement_effects.specs.declared.instruction.Flow.TheVariants as flow
 use Rattle.statement_effects.specs.Areas.{with_registers, data_length}
-use Rattle.statement_effects.specs.Levels.{with_start}
+use Rattle.statement_effects.specs.Levels.{priority_in, with_start}
 use Rattle.statement_effects.specs.Effect.{effect_of}
 use Rattle.mc_machine.specs.Meaning.{State, Undefined, Rest, Meaning, Move, Goes, Calls, Begins, Reaction, Again, Completes, Turn, Asks, Moves, Halts, Leaves, Ends, statements_of, block_entered, error_entered, organisation_block, start_information, failed, begun, called, called_instance, call_registers, instance_registers, flows, stop_request, takes_at, answered, at_block_end, restored, resume, noting, moves, reacts, completed, took, asking, does, runs, turn_of, turn, body_within, left, body}
 
@@ -36,7 +36,7 @@ moves_same m m' rest rest' b s a lt same agree (Calls memory p f) =
     same.at p (resume m f rest) (resume m' f rest') (record s { memory = memory }) a lt
     (record { at = λ s2 a2 h. same.at f.place rest rest' (record s2 { memory = with_registers s2.memory (restored s2.memory.registers f.kept) }) a2 (omega arith) (less_agrees rest rest' b (left s2 a2) (omega arith) agree) })
 moves_same m m' rest rest' b s a lt same agree (Begins memory number level cause f) =
-    same.at (At (organisation_block number) 0 level Fresh) (resume m f rest) (resume m' f rest') (record s { memory = with_start memory (start_information s.cycles (s.taken - 1) number level cause) }) a lt
+    same.at (At (organisation_block number) 0 level Fresh) (resume m f rest) (resume m' f rest') (record s { memory = with_start memory (start_information s.cycles (s.taken - 1) number (priority_in memory) cause) }) a lt
     (record { at = λ s2 a2 h. same.at f.place rest rest' (record s2 { memory = with_registers s2.memory (restored s2.memory.registers f.kept) }) a2 (omega arith) (less_agrees rest rest' b (left s2 a2) (omega arith) agree) })
 
 reacts_same : (m m' : Meaning) (rest rest' : Rest) (b : ℕ) (s : State) (a : List Answer) → left s a < b → Same m m' b → Agree rest rest' b → (v : Reaction) → reacts m rest s a v ≡ reacts m' rest' s a v

@@ -11,7 +11,7 @@ use Rattle.statement_effects.specs.State.{Memory}
 use Rattle.mc_machine.specs.Places.{Place, AtStop, Over, At, Fresh, Frame}
 use Rattle.mc_machine.specs.Meaning.{State, Waits, Stopped, Undefined, Rest, Move, Goes, Calls, Begins, Reaction, Again, Completes, Turn, Asks, Moves, Halts, Leaves, Ends, with_note, organisation_block, start_information, stop_request, at_block_end, resume, moves, reacts, cycles_after, took, does, body, turn_of, takes, is_dated, takes_at, answered, never, starts, start_notes, std}
 use Rattle.statement_effects.specs.Areas.{start_memory}
-use Rattle.statement_effects.specs.Levels.{with_start}
+use Rattle.statement_effects.specs.Levels.{priority_in, with_start}
 use Rattle.mc_machine.specs.Stands.{Config, newest, with_newest, state_of, rest_of, todo, start_config, StandsFor, IsMoved, Reacts, Follows, AsksAt, Keeps, turns_left}
 use Rattle.mc_machine.proofs.Enough.{Counts, body_turn}
 
@@ -31,7 +31,7 @@ moved c c' notes n a memory since at _ (Calls memory' place frame) m e =
     sym (ap (λ x. todo x notes n a) e
     ∙ ap (λ k. body place k (record { program = c.program; memory = memory'; since = since; cycles = c.cycles; notes = notes; taken = n }) a) (rest_push never c.frames frame))
 moved c c' notes n a memory since at _ (Begins memory' number level cause frame) m e =
-    let begun : ℕ → State = λ moment. record { program = c.program; memory = with_start memory' (start_information c.cycles moment number level cause); since = since; cycles = c.cycles; notes = notes; taken = n } in
+    let begun : ℕ → State = λ moment. record { program = c.program; memory = with_start memory' (start_information c.cycles moment number (priority_in memory') cause); since = since; cycles = c.cycles; notes = notes; taken = n } in
     let place : Place = At (organisation_block number) 0 level Fresh in
     sym (ap (λ x. todo x notes n a) e
     ∙ ap (λ k. body place k (begun at) a) (rest_push never c.frames frame)

@@ -12,6 +12,7 @@ use Rattle.s7_base.specs.Blocks.{Code, Program, code_of}
 use Rattle.statement_effects.specs.declared.areas.Registers.{Registers}
 use Rattle.statement_effects.specs.State.{Memory}
 use Rattle.statement_effects.specs.Areas.{data_length}
+use Rattle.statement_effects.specs.Levels.{priority_in}
 use Rattle.mc_machine.specs.Places.{Level, Mode, Fresh, Ticking, Timing, Retriggering, Place, AtOutputs, AtInputs, AtCycle, AtStop, Over, At, Frame}
 use Rattle.statement_effects.specs.declared.instruction.Flow.{Flow}
 use Rattle.statement_effects.specs.declared.instruction.Flow.TheVariants as flow
@@ -54,9 +55,9 @@ asked_flow program block at level memory r flow.End e = absurd cc
 asked_flow program block at level memory r (flow.Fail error) e =
     absurd (asked_failed (At block (at + 1) level Fresh) level memory error r (error_entered program level memory error) e)
 asked_flow program block at level memory r flow.AskNow e =
-    let q : request_of asks.Now level.priority ≡ r = cc in subst (λ (r : Request). IsAskedAt (At block at level Fresh) r.ask) q (block, at, level, Fresh, refl)
+    let q : request_of asks.Now (priority_in memory) ≡ r = cc in subst (λ (r : Request). IsAskedAt (At block at level Fresh) r.ask) q (block, at, level, Fresh, refl)
 asked_flow program block at level memory r flow.AskRetrigger e =
-    let q : request_of asks.Retrigger level.priority ≡ r = cc in subst (λ (r : Request). IsAskedAt (At block at level Fresh) r.ask) q (block, at, level, Fresh, refl)
+    let q : request_of asks.Retrigger (priority_in memory) ≡ r = cc in subst (λ (r : Request). IsAskedAt (At block at level Fresh) r.ask) q (block, at, level, Fresh, refl)
 asked_flow program block at level memory r flow.Stop e = absurd cc
 
 asked_run : (program : Program) (block : BlockRef) (at : ℕ) (level : Level) (since : ℕ) (memory : Memory) (r : Request) (o : Option Statement) → runs program block at level since memory o ≡ Asks r → IsAskedAt (At block at level Fresh) r.ask
@@ -64,7 +65,7 @@ asked_run program block at level since memory r None e = absurd cc
 asked_run program block at level since memory r (Some statement) e =
     cond_both (nat_lt since 256) _ _ (λ t. t ≡ Asks r → IsAskedAt (At block at level Fresh) r.ask)
     (λ _ x. asked_flow program block at level (effect_of statement memory).0 r (effect_of statement memory).1 x)
-    (λ _ x. let q : request_of asks.Tick level.priority ≡ r = cc in subst (λ (r : Request). IsAskedAt (At block at level Fresh) r.ask) q (block, at, level, Fresh, refl))
+    (λ _ x. let q : request_of asks.Tick (priority_in memory) ≡ r = cc in subst (λ (r : Request). IsAskedAt (At block at level Fresh) r.ask) q (block, at, level, Fresh, refl))
     e
 
 pub asked_at : (program : Program) (since : ℕ) (memory : Memory) (p : Place) (r : Request) → turn_of program since memory p ≡ Asks r → IsAskedAt p r.ask
@@ -75,11 +76,11 @@ asked_at program since memory (AtStop code) r e = let q : stop_request code ≡ 
 asked_at program since memory Over r e = absurd cc
 asked_at program since memory (At block at level Fresh) r e = asked_run program block at level since memory r (slice_get (statements_of program block) at) e
 asked_at program since memory (At block at level Ticking) r e =
-    let q : request_of asks.Tick level.priority ≡ r = cc in subst (λ (r : Request). IsAskedAt (At block at level Ticking) r.ask) q (block, at, level, Ticking, refl)
+    let q : request_of asks.Tick (priority_in memory) ≡ r = cc in subst (λ (r : Request). IsAskedAt (At block at level Ticking) r.ask) q (block, at, level, Ticking, refl)
 asked_at program since memory (At block at level Timing) r e =
-    let q : request_of asks.Now level.priority ≡ r = cc in subst (λ (r : Request). IsAskedAt (At block at level Timing) r.ask) q (block, at, level, Timing, refl)
+    let q : request_of asks.Now (priority_in memory) ≡ r = cc in subst (λ (r : Request). IsAskedAt (At block at level Timing) r.ask) q (block, at, level, Timing, refl)
 asked_at program since memory (At block at level Retriggering) r e =
-    let q : request_of asks.Retrigger level.priority ≡ r = cc in subst (λ (r : Request). IsAskedAt (At block at level Retriggering) r.ask) q (block, at, level, Retriggering, refl)
+    let q : request_of asks.Retrigger (priority_in memory) ≡ r = cc in subst (λ (r : Request). IsAskedAt (At block at level Retriggering) r.ask) q (block, at, level, Retriggering, refl)
 
 pub is_asked : (p : Place) (ask : Ask) → IsAskedAt p ask → IsAsked ask
 is_asked p (asks.Outputs image) h = tt
@@ -171,7 +172,7 @@ decoded_flow : (program : Program) (block : BlockRef) (at : ℕ) (level : Level)
 decoded_flow program block at level since before memory None decoded to s lt e = absurd cc
 decoded_flow program block at level since before memory (Some statement) decoded to s lt e =
     let same : instruction_of statement ≡ decoded = cc in
-    ap (λ b. if b then flows program block at level (effect_of statement before).0 (effect_of statement before).1 else Asks (request_of asks.Tick level.priority)) (lt-ltb since 256 lt)
+    ap (λ b. if b then flows program block at level (effect_of statement before).0 (effect_of statement before).1 else Asks (request_of asks.Tick (priority_in before))) (lt-ltb since 256 lt)
     ∙ ap (λ (x : Memory × Flow). flows program block at level x.0 x.1) (ap (λ i. effect_if i before) same ∙ e)
 
 -- the turn at a place in a block, from what was found there
@@ -180,13 +181,13 @@ acts c block at level decoded memory to p s lt e =
     ap (turn_of c.program c.since c.memory) p
     ∙ decoded_flow c.program block at level c.since c.memory memory (slice_get (statements_of c.program block) at) decoded to s lt e
 
-tick_comes : (program : Program) (block : BlockRef) (at : ℕ) (level : Level) (since : ℕ) (before : Memory) (found : Option Statement) (decoded : Option Instruction) → option_map instruction_of found ≡ Some decoded → 256 ≤ since → runs program block at level since before found ≡ Asks (request_of asks.Tick level.priority)
+tick_comes : (program : Program) (block : BlockRef) (at : ℕ) (level : Level) (since : ℕ) (before : Memory) (found : Option Statement) (decoded : Option Instruction) → option_map instruction_of found ≡ Some decoded → 256 ≤ since → runs program block at level since before found ≡ Asks (request_of asks.Tick (priority_in before))
 tick_comes program block at level since before None decoded s le = absurd cc
 tick_comes program block at level since before (Some statement) decoded s le =
-    ap (λ b. if b then flows program block at level (effect_of statement before).0 (effect_of statement before).1 else Asks (request_of asks.Tick level.priority)) (le-ltb since 256 le)
+    ap (λ b. if b then flows program block at level (effect_of statement before).0 (effect_of statement before).1 else Asks (request_of asks.Tick (priority_in before))) (le-ltb since 256 le)
 
 -- a block that has completed 256 statements asks
-pub run_ticks : (c c' : Config) (block : BlockRef) (at : ℕ) (level : Level) (decoded : Option Instruction) (o : Option Request) → o ≡ Some (request_of asks.Tick level.priority) → c' ≡ c → c.place ≡ At block at level Fresh → option_map instruction_of (slice_get (statements_of c.program block) at) ≡ Some decoded → 256 ≤ c.since → Follows (turn_of c.program c.since c.memory c.place) c o c'
+pub run_ticks : (c c' : Config) (block : BlockRef) (at : ℕ) (level : Level) (decoded : Option Instruction) (o : Option Request) → o ≡ Some (request_of asks.Tick (priority_in c.memory)) → c' ≡ c → c.place ≡ At block at level Fresh → option_map instruction_of (slice_get (statements_of c.program block) at) ≡ Some decoded → 256 ≤ c.since → Follows (turn_of c.program c.since c.memory c.place) c o c'
 run_ticks c c' block at level decoded o is same p s le =
     subst (λ t. Follows t c o c')
     (sym (ap (turn_of c.program c.since c.memory) p ∙ tick_comes c.program block at level c.since c.memory (slice_get (statements_of c.program block) at) decoded s le))

@@ -5,7 +5,7 @@ use Rattle.s7_events.specs.declared.entry.Request.{Request}
 use Rattle.s7_events.specs.declared.entry.Answer.{Answer}
 use Rattle.mc_machine.specs.Places.{Place, AtStop, At, Fresh}
 use Rattle.statement_effects.specs.Areas.{with_registers}
-use Rattle.statement_effects.specs.Levels.{with_start}
+use Rattle.statement_effects.specs.Levels.{priority_in, with_start}
 use Rattle.mc_machine.specs.Meaning.{State, End, Waits, Stopped, Left, Undefined, Rest, Meaning, Move, Goes, Calls, Begins, Reaction, Again, Completes, Turn, Asks, Moves, Halts, Leaves, Ends, organisation_block, start_information, stop_request, takes_at, answered, restored, resume, noting, moves, reacts, completed, took, asking, does, turn_of, body_within, left, body}
 use Rattle.mc_machine.specs.BlockRuns.{then_do, BodyThen, BodyTurn}
 use Rattle.mc_machine.proofs.Enough.{body_turn}
@@ -36,7 +36,7 @@ moves_on m rest s a on (Calls memory p f) =
     ∙ ap (λ e. then_do e rest) (sym (on.at p (resume m f Left) s1 a))
 moves_on m rest s a on (Begins memory number level cause f) =
     let p : Place = At (organisation_block number) 0 level Fresh in
-    let s1 : State = record s { memory = with_start memory (start_information s.cycles (s.taken - 1) number level cause) } in
+    let s1 : State = record s { memory = with_start memory (start_information s.cycles (s.taken - 1) number (priority_in memory) cause) } in
     on.at p (resume m f rest) s1 a
     ∙ then_same (m p Left s1 a) (resume m f rest) (λ s2 a2. then_do (resume m f Left s2 a2) rest) (λ s2 a2. on.at f.place rest (record s2 { memory = with_registers s2.memory (restored s2.memory.registers f.kept) }) a2)
     ∙ sym (then_assoc (m p Left s1 a) (resume m f Left) rest)

@@ -22,7 +22,7 @@ use Rattle.mc_machine.specs.Places.{Level, Mode, Fresh, Ticking, Timing, Retrigg
 use Rattle.mc_machine.specs.Stands.{Config, Running}
 
 abbrev pub level_in : StoredLevel → Level
-level_in level = record { priority = level.priority; in_error = level.in_error }
+level_in level = record { in_error = level.in_error }
 
 abbrev pub mode_of : StoredMode → Mode
 mode_of modes.Fresh = Fresh

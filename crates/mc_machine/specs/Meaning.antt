@@ -26,7 +26,7 @@ use Rattle.level_stack.specs.declared.level.LevelFault.TheVariants.{DepthReached
 use Rattle.cpu_image.specs.Pages as image_pages
 use Rattle.level_stack.specs.StartInfo.{start_bytes}
 use Rattle.statement_effects.specs.State.{Memory}
-use Rattle.statement_effects.specs.Levels.{with_level, entered, with_start, without_block}
+use Rattle.statement_effects.specs.Levels.{priority_in, with_level, entered, with_start, without_block}
 use Rattle.statement_effects.specs.declared.areas.Registers.{Registers}
 use Rattle.mc_machine.specs.declared.places.Cause.{Cause}
 use Rattle.mc_machine.specs.declared.places.Cause.TheVariants.{CpuStarted, CycleBegan, StatementFailed}
@@ -168,10 +168,10 @@ start_moment at CpuStarted = at % 2 ^ 32
 start_moment at CycleBegan = 0
 start_moment at (StatementFailed error) = at % 2 ^ 32
 
--- the start information of an organisation block on a level, where the last answer was that of this moment
-abbrev pub start_information : Cycles → ℕ → ℕ → Level → Cause → List ℕ
-start_information cycles at number level cause =
-    start_bytes (start_byte cycles.first_over cause) level.priority number (start_value cycles.last_length cause) (start_moment at cause)
+-- the start information of an organisation block on a level of a priority, where the last answer was that of this moment
+abbrev pub start_information : Cycles → ℕ → ℕ → ℕ → Cause → List ℕ
+start_information cycles at number priority cause =
+    start_bytes (start_byte cycles.first_over cause) priority number (start_value cycles.last_length cause) (start_moment at cause)
 
 -- errors --
 
@@ -258,15 +258,15 @@ flows program block at level memory (flow.Call callee) = calls program (At block
 flows program block at level memory (flow.CallInstance callee number) = calls_instance program (At block (at + 1) level Fresh) level memory callee number
 flows program block at level memory flow.End = Moves None (Goes memory (At block (length (statements_of program block)) level Fresh))
 flows program block at level memory (flow.Fail error) = fails program (At block (at + 1) level Fresh) level memory error
-flows program block at level memory flow.AskNow = Asks (request_of asks.Now level.priority)
-flows program block at level memory flow.AskRetrigger = Asks (request_of asks.Retrigger level.priority)
+flows program block at level memory flow.AskNow = Asks (request_of asks.Now (priority_in memory))
+flows program block at level memory flow.AskRetrigger = Asks (request_of asks.Retrigger (priority_in memory))
 flows program block at level memory flow.Stop = Halts None memory stops.Sfc46
 
 -- the statement at a place, unless 256 statements were completed since the last answer; behind the last the block ends
 abbrev pub runs : Program → BlockRef → ℕ → Level → ℕ → Memory → Option Statement → Turn
 runs program block at level since memory None = Leaves
 runs program block at level since memory (Some statement) =
-    if nat_lt since 256 then flows program block at level (effect_of statement memory).0 (effect_of statement memory).1 else Asks (request_of asks.Tick level.priority)
+    if nat_lt since 256 then flows program block at level (effect_of statement memory).0 (effect_of statement memory).1 else Asks (request_of asks.Tick (priority_in memory))
 
 abbrev pub stop_request : StopCode → Request
 stop_request code = request_of (asks.Stop code) 30
@@ -278,9 +278,9 @@ turn_of program since memory AtCycle = Asks (request_of asks.Cycle 1)
 turn_of program since memory (AtStop code) = Asks (stop_request code)
 turn_of program since memory Over = Ends
 turn_of program since memory (At block at level Fresh) = runs program block at level since memory (slice_get (statements_of program block) at)
-turn_of program since memory (At block at level Ticking) = Asks (request_of asks.Tick level.priority)
-turn_of program since memory (At block at level Timing) = Asks (request_of asks.Now level.priority)
-turn_of program since memory (At block at level Retriggering) = Asks (request_of asks.Retrigger level.priority)
+turn_of program since memory (At block at level Ticking) = Asks (request_of asks.Tick (priority_in memory))
+turn_of program since memory (At block at level Timing) = Asks (request_of asks.Now (priority_in memory))
+turn_of program since memory (At block at level Retriggering) = Asks (request_of asks.Retrigger (priority_in memory))
 
 -- the answers --
 
@@ -325,7 +325,7 @@ cycle_frame = record { place = AtCycle; kept = Whole clear_registers }
 
 -- OB1 runs on a level of its own
 abbrev pub main_level : Level
-main_level = record { priority = priority_of 1; in_error = false }
+main_level = record { in_error = false }
 
 abbrev pub main_entered : Program → Memory → Result Memory StopCode
 main_entered program memory = or_stop (entered (with_level memory (priority_of 1)) main_block (local_bytes_in (code_of program Ob 1)))
@@ -445,7 +445,7 @@ moves meaning rest state given (Calls memory place frame) =
     meaning place (resume meaning frame rest) (record state { memory = memory }) given
 moves meaning rest state given (Begins memory number level cause frame) =
     meaning (At (organisation_block number) 0 level Fresh) (resume meaning frame rest)
-    (record state { memory = with_start memory (start_information state.cycles (state.taken - 1) number level cause) }) given
+    (record state { memory = with_start memory (start_information state.cycles (state.taken - 1) number (priority_in memory) cause) }) given
 
 -- one statement more was completed
 abbrev pub completed : State → State
@@ -537,7 +537,7 @@ start program = record { program = program; memory = start_memory program; since
 
 -- OB100 runs on a level of its own, and its end leads to the first cycle
 abbrev pub startup_level : Level
-startup_level = record { priority = priority_of 100; in_error = false }
+startup_level = record { in_error = false }
 
 abbrev pub startup_frame : Frame
 startup_frame = record { place = AtOutputs; kept = Whole clear_registers }

@@ -6,9 +6,8 @@ use Rattle.bit_unit.specs.State.{BitState}
 use Rattle.statement_effects.specs.declared.areas.DataRegisters.{DataRegisters}
 use Rattle.statement_effects.specs.declared.areas.Registers.{Registers}
 
--- the level that a block runs on: its priority, and whether one of the blocks that have begun on it is an error OB
+-- the level that a block runs on: whether one of the blocks that have begun on it is an error OB
 pub record Level : Type 0 where
-  pub priority : ℕ
   pub in_error : Bool
 
 -- whether a block comes to its statement anew, or makes again a request that was not ended

@@ -16,7 +16,7 @@ use Rattle.cpu_image.specs.declared.area.ByteArea.TheVariants as byte_areas
 use Rattle.cpu_image.specs.Image as image
 use Rattle.cpu_image.specs.Pages as image_pages
 use Rattle.statement_effects.specs.State.{Memory}
-use Rattle.statement_effects.specs.Levels.{with_start}
+use Rattle.statement_effects.specs.Levels.{priority_in, with_start}
 use Rattle.mc_machine.specs.Places.{Level, Mode, Place, AtOutputs, AtInputs, AtCycle, AtStop, Over, At, Fresh, Frame}
 use Rattle.timers.specs.Bytes as timer_form
 use Rattle.counters.specs.Bytes as counter_form
@@ -72,7 +72,7 @@ pub record StandsFor (program : Program) (given : List Answer) (c : Config) : Ty
 abbrev pub IsMoved : Move → Config → ℕ → ℕ → Option DiagCode → Config → Type 0
 IsMoved (Goes memory place) c since at note c' = c' ≡ record { program = c.program; place = place; frames = c.frames; memory = memory; since = since; at = at; cycles = c.cycles; diag = with_newest c.diag at note }
 IsMoved (Calls memory place frame) c since at note c' = c' ≡ record { program = c.program; place = place; frames = c.frames ++ frame ∷ []; memory = memory; since = since; at = at; cycles = c.cycles; diag = with_newest c.diag at note }
-IsMoved (Begins memory number level cause frame) c since at note c' = c' ≡ record { program = c.program; place = At (organisation_block number) 0 level Fresh; frames = c.frames ++ frame ∷ []; memory = with_start memory (start_information c.cycles at number level cause); since = since; at = at; cycles = c.cycles; diag = with_newest c.diag at note }
+IsMoved (Begins memory number level cause frame) c since at note c' = c' ≡ record { program = c.program; place = At (organisation_block number) 0 level Fresh; frames = c.frames ++ frame ∷ []; memory = with_start memory (start_information c.cycles at number (priority_in memory) cause); since = since; at = at; cycles = c.cycles; diag = with_newest c.diag at note }
 
 -- the machine is where a turn leads that moves or halts, with so many statements completed
 abbrev pub IsTurned : Turn → Config → ℕ → ℕ → Config → Type 0

@@ -5,6 +5,7 @@ ghost use Rattle.std.specs.Option.{option_map};
 ghost use Rattle.s7_events.specs.declared.entry.Answer.{Answer};
 ghost use Rattle.s7_base.specs.declared.blocks.BlockRef.{BlockRef};
 ghost use Rattle.statement_effects.specs.Areas.{start_memory};
+ghost use Rattle.statement_effects.specs.Levels.{priority_in};
 ghost use Rattle.level_stack.specs.Levels.{running_locals};
 ghost use Rattle.mc_machine.specs.Meaning.{error_registers, failed, fails, begun, calls, calls_instance, turn_of, flows, jump_among, cycle_length, cycles_after, answered, takes, stops_cpu, begins_main, lost_note, again_mode, again, resumed, timed_at, retriggered_at, Leaves, Waits, std, request_of, stop_request};
 ghost use Rattle.mc_machine.specs.Stands.{Running, state_of, newest, with_newest, start_config, StandsFor, IsMoved, IsTurned, halts_with, Reacts, Follows, register_head, register_bytes, IsHigh, AreStacked, AreBegun, IsSound, IsValid, IsAskedAt, AsksAt, Keeps, IsTaken, IsDated, IsAsked, GoesOn};
@@ -111,13 +112,6 @@ fn stop_request(code: StopCode) -> Request
     ensures { result ≡ stop_request code }
 {
     request(Ask::Stop(code), STOP_PRIORITY)
-}
-
-/// The request of a block, with the priority of its level.
-fn block_request(ask: Ask, level: Level) -> Request
-    ensures { result ≡ request_of ask (level_in level).priority }
-{
-    request(ask, level.priority)
 }
 
 /// Another statement of a block, to which it comes anew.
@@ -494,10 +488,7 @@ impl Engine {
             kept: Registers::clear(),
             returns: Returns::Whole,
         };
-        let level = Level {
-            priority: 1,
-            in_error: false,
-        };
+        let level = Level { in_error: false };
         self.begin_organisation_block(1, level, Cause::CycleBegan, frame);
     }
 
@@ -508,6 +499,16 @@ impl Engine {
         ensures waits { self.new.waits ≡ Some request }
     {
         self.waits = Some(request);
+    }
+
+    /// The machine waits at a request of a block, with the priority of the level that runs.
+    fn wait_in_block(&mut self, ask: Ask)
+        ensures stored { IsStored self.old → IsStored self.new }
+        ensures same { config_of self.new ≡ config_of self.old }
+        ensures waits { self.new.waits ≡ Some (request_of ask (priority_in self.old.memory)) }
+    {
+        let priority = self.memory.priority();
+        self.wait_at(request(ask, priority));
     }
 
     /// One turn: a statement, the end of a block, or the request that the place asks. Where it asks, the machine waits.
@@ -543,9 +544,9 @@ impl Engine {
         ensures stored { IsStored self.new }
     {
         match spot.mode {
-            Mode::Timing => self.wait_at(block_request(Ask::Now, spot.level)),
-            Mode::Ticking => self.wait_at(block_request(Ask::Tick, spot.level)),
-            Mode::Retriggering => self.wait_at(block_request(Ask::Retrigger, spot.level)),
+            Mode::Timing => self.wait_in_block(Ask::Now),
+            Mode::Ticking => self.wait_in_block(Ask::Tick),
+            Mode::Retriggering => self.wait_in_block(Ask::Retrigger),
             Mode::Fresh => self.run(spot),
         }
     }
@@ -566,7 +567,7 @@ impl Engine {
             return self.leave();
         };
         if self.since >= 256 {
-            return self.wait_at(block_request(Ask::Tick, spot.level));
+            return self.wait_in_block(Ask::Tick);
         }
         let flow = self.memory.perform(statement);
         self.follow(spot, flow)
@@ -609,8 +610,8 @@ impl Engine {
                 return self.call_instance(callee, number, spot);
             }
             Flow::Fail(error) => return self.fail_statement(error, spot),
-            Flow::AskNow => return self.wait_at(block_request(Ask::Now, spot.level)),
-            Flow::AskRetrigger => return self.wait_at(block_request(Ask::Retrigger, spot.level)),
+            Flow::AskNow => return self.wait_in_block(Ask::Now),
+            Flow::AskRetrigger => return self.wait_in_block(Ask::Retrigger),
             Flow::Stop => return self.halt(StopCode::Sfc46),
         };
         self.go_to(next);
@@ -686,10 +687,7 @@ impl Engine {
             kept: registers,
             returns: Returns::Whole,
         };
-        let level = Level {
-            priority: spot.level.priority,
-            in_error: true,
-        };
+        let level = Level { in_error: true };
         self.memory.set_registers(error_registers(&registers));
         let cause = Cause::StatementFailed(error);
         self.begin_organisation_block(error_ob(error), level, cause, frame);

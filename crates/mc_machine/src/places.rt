@@ -3,10 +3,9 @@
 use s7_base::{BlockRef, StopCode};
 use statement_effects::Registers;
 
-/// The level that a block runs on: its priority, and whether one of the blocks that have begun on it is an error OB.
+/// The level that a block runs on: whether one of the blocks that have begun on it is an error OB.
 #[derive(Clone, Copy, Debug)]
 pub struct Level {
-    pub priority: u8,
     pub in_error: bool,
 }
 

@@ -1,10 +1,14 @@
 -- How levels and blocks begin and end, as the statements see it.
-use Rattle.std.specs.Prelude.{ℕ, ◌+◌, ◌==◌, nat_lt, List, [], ◌∷◌, ◌++◌, length, if◌then◌else◌, Result, Ok, Err}
+use Rattle.std.specs.Prelude.{ℕ, ◌+◌, ◌==◌, nat_lt, List, [], ◌∷◌, ◌++◌, length, if◌then◌else◌, Result, Ok, Err, unwrap_or}
 use Rattle.s7_base.specs.declared.blocks.BlockRef.{BlockRef}
 use Rattle.level_stack.specs.declared.level.LevelFault.{LevelFault}
 use Rattle.level_stack.specs.declared.level.LevelFault.TheVariants.{DepthReached, LocalFull}
 use Rattle.level_stack.specs.Levels as levels
 use Rattle.statement_effects.specs.State.{Memory}
+
+-- the priority of the level that runs, and outside every level that of OB1
+abbrev pub priority_in : Memory → ℕ
+priority_in memory = unwrap_or (levels.running_prio memory.levels) 1
 
 -- a level of a priority begins, with no block yet
 abbrev pub with_level : Memory → ℕ → Memory

@@ -1,13 +1,20 @@
 //! How levels and blocks begin and end.
 ghost use Rattle.std.specs.Prelude.{◌≡◌, ◌<◌, ◌≤◌, length, OnOk, OnErr, IfErr, Ok, Err};
 ghost use Rattle.level_stack.specs.Levels.{running_frames, running_locals, block_counts};
-ghost use Rattle.statement_effects.specs.Levels.{with_level, with_block, entered, with_start, without_block};
+ghost use Rattle.statement_effects.specs.Levels.{priority_in, with_level, with_block, entered, with_start, without_block};
 
 use crate::Memory;
 use level_stack::LevelFault;
 use s7_base::BlockRef;
 
 impl Memory {
+    /// Returns the priority of the level that runs, and outside every level that of OB1.
+    pub fn priority(&self) -> u8
+        ensures { result ≡ priority_in self.now }
+    {
+        self.levels.priority().unwrap_or(1)
+    }
+
     /// Begins a block on the level that runs, with `bytes` bytes of local data, all 0. Where it is refused nothing changes.
     ///
     /// # Errors

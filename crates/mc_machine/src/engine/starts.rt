@@ -1,7 +1,7 @@
 //! How organisation blocks begin, with their start information.
 ghost use Rattle.std.specs.Prelude.{◌≡◌, ◌≢◌, None, ◌<◌, ◌≤◌, ◌+◌, ◌++◌, ◌∷◌, [], length};
 ghost use Rattle.level_stack.specs.Levels.{running_locals};
-ghost use Rattle.statement_effects.specs.Levels.{with_start};
+ghost use Rattle.statement_effects.specs.Levels.{priority_in, with_start};
 ghost use Rattle.mc_machine.specs.Meaning.{organisation_block, start_information, starts};
 ghost use Rattle.mc_machine.specs.Stands.{IsHigh, AreStacked, AreBegun, IsSound, IsMoved, start_config};
 ghost use Rattle.mc_machine.specs.Places.{At, Fresh, Over};
@@ -11,17 +11,16 @@ use super::Engine;
 use crate::levels::{enter_startup, ob, start_byte, start_moment, start_value};
 use crate::places::{Cause, Frame, Level, Returns, Spot};
 use level_stack::start_info;
-use s7_base::priority;
 use statement_effects::Registers;
 
 impl Engine {
-    /// What an organisation block that begins on a level is told.
-    fn start_information(&self, number: u8, level: Level, cause: Cause) -> [u8; 20]
-        ensures { result ≡ start_information (config_of self.now).cycles self.now.at number (level_in level) cause }
+    /// What an organisation block that begins on the level that runs is told.
+    fn start_information(&self, number: u8, cause: Cause) -> [u8; 20]
+        ensures { result ≡ start_information (config_of self.now).cycles self.now.at number (priority_in self.now.memory) cause }
     {
         start_info(
             start_byte(self.first_over, cause),
-            level.priority,
+            self.memory.priority(),
             number,
             start_value(self.last_length, cause),
             start_moment(self.at, cause),
@@ -47,12 +46,12 @@ impl Engine {
         requires indexed { IsIndexed self.old.program frame.spot }
         requires decoded { self.old.decoded.items ≡ decoded_codes self.old.program.codes }
         requires found { AreFound self.old.program.codes self.old.index }
-        ensures moved { config_of self.new ≡ record (config_of self.old) { memory = with_start self.old.memory (start_information (config_of self.old).cycles self.old.at number (level_in level) cause); place = At (organisation_block number) 0 (level_in level) Fresh; frames = (config_of self.old).frames ++ frame_of frame ∷ [] } }
+        ensures moved { config_of self.new ≡ record (config_of self.old) { memory = with_start self.old.memory (start_information (config_of self.old).cycles self.old.at number (priority_in self.old.memory) cause); place = At (organisation_block number) 0 (level_in level) Fresh; frames = (config_of self.old).frames ++ frame_of frame ∷ [] } }
         ensures sound { IsSound (config_of self.new) }
         ensures stored { IsStored self.new }
         ensures waits { self.new.waits ≡ self.old.waits }
     {
-        let information = self.start_information(number, level, cause);
+        let information = self.start_information(number, cause);
         self.memory.write_start(&information);
         self.begin(ob(number), level, frame);
     }
@@ -80,10 +79,7 @@ impl Engine {
             kept: Registers::clear(),
             returns: Returns::Whole,
         };
-        let level = Level {
-            priority: priority(100),
-            in_error: false,
-        };
+        let level = Level { in_error: false };
         self.begin_organisation_block(100, level, Cause::CpuStarted, frame);
     }
 }

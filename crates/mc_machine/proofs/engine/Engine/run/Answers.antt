@@ -1,5 +1,5 @@
 -- A turn in a block is a turn of its place.
-use Rattle.std.proofs.Common.{Some, ap, sym, ◌∙◌}
+use Rattle.std.proofs.Common.{sym, ◌∙◌}
 use Rattle.mc_machine.specs.EngineView.{level_in, config_of}
 use Rattle.mc_machine.proofs.Sound.{run_follows, run_leaves, run_ticks, sound_after}
 use Rattle.mc_machine.proofs.Stored.{decoded_found}
@@ -10,7 +10,7 @@ returns-then-self-ge256-clause-turned c =
     let spot = c.args.spot in
     let engine = c.args.self.now in
     let found = decoded_found engine.program c.deref.result.now spot.code spot.at spot.block (c.deref.ensures.value ∙ c.requires.stored.decoded) c.requires.code in
-    run_ticks (config_of engine) (config_of c.wait_at.new.self) spot.block spot.at (level_in spot.level) c.in-Some.statement.now c.wait_at.new.self.waits (c.wait_at.ensures.waits ∙ ap Some c.block_request.ensures) c.wait_at.ensures.same c.requires.here (sym found ∙ sym c.in-Some.ensures.found) c.if-self-ge256.true
+    run_ticks (config_of engine) (config_of c.wait_in_block.new.self) spot.block spot.at (level_in spot.level) c.in-Some.statement.now c.wait_in_block.new.self.waits c.wait_in_block.ensures.waits c.wait_in_block.ensures.same c.requires.here (sym found ∙ sym c.in-Some.ensures.found) c.if-self-ge256.true
 
 pub follow-requires-clause-sound : goal.follow-requires-clause-sound
 follow-requires-clause-sound c =
