@@ -1,30 +1,27 @@
 //! What a running machine holds: it runs from request to request.
-ghost use Rattle.std.specs.Prelude.{◌≡◌, ◌≢◌, ℕ, ◌+◌, ◌-◌, ◌<◌, ◌≤◌, ◌++◌, ◌∷◌, [], List, length, slice_get, replicate, IsTrue, IfSome, OnSome, ◌^◌, true, false, Option, Some, None, Ok};
+ghost use Rattle.std.specs.Prelude.{◌≡◌, ◌≢◌, ◌+◌, ◌-◌, ◌<◌, ◌≤◌, ◌++◌, ◌∷◌, [], List, length, slice_get, replicate, IsTrue, IfSome, ◌^◌, true, false, Option, Some, None, Ok};
 ghost use Rattle.s7_base.specs.Blocks.{Program};
 ghost use Rattle.std.specs.Option.{option_map};
 ghost use Rattle.s7_events.specs.declared.entry.Answer.{Answer};
-ghost use Rattle.s7_base.specs.declared.blocks.BlockRef.{BlockRef};
 ghost use Rattle.statement_effects.specs.Areas.{start_memory};
 ghost use Rattle.statement_effects.specs.Levels.{priority_in};
 ghost use Rattle.level_stack.specs.Levels.{running_locals};
-ghost use Rattle.mc_machine.specs.Meaning.{error_registers, failed, fails, begun, calls, calls_instance, turn_of, flows, jump_among, cycle_length, cycles_after, answered, takes, stops_cpu, begins_main, lost_note, again_mode, again, resumed, timed_at, retriggered_at, Leaves, Waits, std, request_of, stop_request};
-ghost use Rattle.mc_machine.specs.Stands.{Running, state_of, newest, with_newest, start_config, StandsFor, IsMoved, IsTurned, halts_with, Reacts, Follows, register_head, register_bytes, IsHigh, AreStacked, AreBegun, IsSound, IsValid, IsAskedAt, AsksAt, Keeps, IsTaken, IsDated, IsAsked, GoesOn};
+ghost use Rattle.mc_machine.specs.Meaning.{error_registers, failed, fails, begun, calls, turn_of, flows, jump_among, cycle_length, cycles_after, answered, takes, stops_cpu, begins_main, lost_note, again_mode, again, resumed, timed_at, retriggered_at, Waits, std, request_of, stop_request};
+ghost use Rattle.mc_machine.specs.Stands.{state_of, with_newest, start_config, StandsFor, IsMoved, IsTurned, halts_with, Reacts, Follows, register_head, register_bytes, IsHigh, AreStacked, AreBegun, IsSound, IsValid, IsAskedAt, AsksAt, Keeps, IsTaken, IsDated, IsAsked, GoesOn};
 ghost use Rattle.mc_machine.specs.Places.{AtInputs, AtStop, Over, At, Fresh};
-ghost use Rattle.mc_machine.specs.EngineView.{level_in, mode_of, place_of, frame_of, config_of, running_of, decoded_codes, gone_to, IsCode, IsIndexed, AreIndexed, AreFound, IsStored};
+ghost use Rattle.mc_machine.specs.EngineView.{level_in, mode_of, place_of, config_of, running_of, decoded_codes, gone_to, IsCode, IsIndexed, IsStored};
 ghost use Rattle.s7_events.specs.declared.entry.Ask.{Ask};
 
+mod calls;
 mod starts;
 
 use crate::codes::{decoded_at, end_of, instruction_in};
 use crate::index::CodeIndex;
-use crate::levels::{
-    call_registers, enter_block, enter_error_ob, enter_main, error_ob, error_registers,
-    instance_registers, restored,
-};
+use crate::levels::{enter_error_ob, enter_main, error_ob, error_registers};
 use crate::places::{BlockSpot, Cause, Frame, Level, Mode, Returns, Spot};
 use arrayvec::ArrayVec;
 use diag_buffer::Diag;
-use s7_base::{Answer, Ask, BlockRef, Blocks, CodeKind, DiagCode, Loss, Request, Side, StopCode};
+use s7_base::{Answer, Ask, Blocks, DiagCode, Loss, Request, Side, StopCode};
 use statement_effects::{DecodedBlock, Flow, Instruction, Memory, Registers};
 
 /// How many frames there are: that of the cycle, and those of the blocks under the 24th of a level.
@@ -52,12 +49,6 @@ pub struct Engine {
     diag: Diag,
     waits: Option<Request>,
 }
-
-/// The error of a block that is called and is not loaded.
-const NOT_LOADED: u8 = 7;
-
-/// The error of a data block that is not loaded.
-const NO_DATA_BLOCK: u8 = 8;
 
 /// The priority of a request to stop.
 const STOP_PRIORITY: u8 = 30;
@@ -714,94 +705,6 @@ impl Engine {
         }
     }
 
-    /// A block is called. The statement is completed where it begins, or where it is not loaded and the error OB begins.
-    #[tactic(auto, using(crate::proofs::Begun::has_level))]
-    fn call(&mut self, callee: BlockRef, spot: BlockSpot)
-        requires sound { IsSound (config_of self.old) }
-        requires stored { IsStored self.old }
-        requires ready { self.old.waits ≡ None }
-        requires here { IsHigh (length (config_of self.old).frames) (At spot.block spot.at (level_in spot.level) Fresh) }
-        requires code { IsCode self.old.program spot.code spot.block }
-        requires before { self.old.since < 256 }
-        requires within { spot.at + 1 < 2 ^ 64 }
-        ensures turned { Follows (calls self.old.program (At spot.block (spot.at + 1) (level_in spot.level) Fresh) (level_in spot.level) self.old.memory callee) (config_of self.old) self.new.waits (config_of self.new) }
-        ensures sound { IsSound (config_of self.new) }
-        ensures stored { IsStored self.new }
-    {
-        let Some(code) = self.index.code(&self.program, callee) else {
-            return self.fail_statement(NOT_LOADED, spot);
-        };
-        match enter_block(&mut self.memory, callee, code) {
-            Ok(()) => {
-                let inside = call_registers(&self.memory.registers());
-                self.begin_called(callee, spot, inside)
-            }
-            Err(code) => {
-                self.spot = Spot::AtStop(code);
-                self.wait_at(stop_request(code));
-            }
-        }
-    }
-
-    /// A function block is called with the data block of a number, which is opened as DI. The statement is completed where
-    /// the block begins, or where one of them is not loaded and the error OB begins.
-    #[tactic(auto, using(crate::proofs::Begun::has_level))]
-    fn call_instance(&mut self, callee: BlockRef, number: u8, spot: BlockSpot)
-        requires sound { IsSound (config_of self.old) }
-        requires stored { IsStored self.old }
-        requires ready { self.old.waits ≡ None }
-        requires here { IsHigh (length (config_of self.old).frames) (At spot.block spot.at (level_in spot.level) Fresh) }
-        requires code { IsCode self.old.program spot.code spot.block }
-        requires before { self.old.since < 256 }
-        requires within { spot.at + 1 < 2 ^ 64 }
-        ensures turned { Follows (calls_instance self.old.program (At spot.block (spot.at + 1) (level_in spot.level) Fresh) (level_in spot.level) self.old.memory callee number) (config_of self.old) self.new.waits (config_of self.new) }
-        ensures sound { IsSound (config_of self.new) }
-        ensures stored { IsStored self.new }
-    {
-        let Some(code) = self.index.code(&self.program, callee) else {
-            return self.fail_statement(NOT_LOADED, spot);
-        };
-        if self.memory.data_length(number).is_none() {
-            return self.fail_statement(NO_DATA_BLOCK, spot);
-        }
-        match enter_block(&mut self.memory, callee, code) {
-            Ok(()) => {
-                let inside = instance_registers(&self.memory.registers(), number);
-                self.begin_called(callee, spot, inside)
-            }
-            Err(code) => {
-                self.spot = Spot::AtStop(code);
-                self.wait_at(stop_request(code));
-            }
-        }
-    }
-
-    /// A block that is called begins with some registers, once it has its local data.
-    fn begin_called(&mut self, callee: BlockRef, spot: BlockSpot, inside: Registers)
-        requires stacked { AreStacked 0 (config_of self.old).frames }
-        requires begun { AreBegun (length (config_of self.old).frames + 1) self.old.memory.levels }
-        requires room { length (config_of self.old).frames < 24 }
-        requires stored { IsStored self.old }
-        requires ready { self.old.waits ≡ None }
-        requires here { IsHigh (length (config_of self.old).frames) (At spot.block spot.at (level_in spot.level) Fresh) }
-        requires code { IsCode self.old.program spot.code spot.block }
-        requires before { self.old.since < 256 }
-        requires within { spot.at + 1 < 2 ^ 64 }
-        ensures turned { Follows (begun (At spot.block (spot.at + 1) (level_in spot.level) Fresh) (level_in spot.level) self.old.memory inside callee (Ok self.old.memory)) (config_of self.old) self.new.waits (config_of self.new) }
-        ensures sound { IsSound (config_of self.new) }
-        ensures stored { IsStored self.new }
-    {
-        let registers = self.memory.registers();
-        let frame = Frame {
-            spot: at_statement(spot, spot.at + 1),
-            kept: registers,
-            returns: Returns::Brackets,
-        };
-        self.memory.set_registers(inside);
-        self.begin(callee, spot.level, frame);
-        self.since += 1;
-    }
-
     /// A statement that asked is completed by its answer, and fails.
     #[tactic(auto, using(crate::proofs::Sound::turned_since))]
     fn fail_answered(&mut self, error: u8, spot: BlockSpot)
@@ -818,53 +721,5 @@ impl Engine {
     {
         let _ = self.fail(error, spot);
         self.since = 1;
-    }
-
-    /// A block begins over a frame, with the registers that there are.
-    #[tactic(auto, using(crate::proofs::Stored::frames_below))]
-    fn begin(&mut self, block: BlockRef, level: Level, frame: Frame)
-        requires stacked { AreStacked 0 (config_of self.old).frames }
-        requires under { IsHigh (length (config_of self.old).frames) (frame_of frame).place }
-        requires begun { AreBegun (length (config_of self.old).frames + 1) self.old.memory.levels }
-        requires room { length (config_of self.old).frames < 24 }
-        requires frames { AreIndexed self.old.program self.old.frames.items }
-        requires indexed { IsIndexed self.old.program frame.spot }
-        requires decoded { self.old.decoded.items ≡ decoded_codes self.old.program.codes }
-        requires found { AreFound self.old.program.codes self.old.index }
-        ensures moved { config_of self.new ≡ record (config_of self.old) { place = At block 0 (level_in level) Fresh; frames = (config_of self.old).frames ++ frame_of frame ∷ [] } }
-        ensures sound { IsSound (config_of self.new) }
-        ensures stored { IsStored self.new }
-        ensures waits { self.new.waits ≡ self.old.waits }
-    {
-        let code = self.index.find(block);
-        self.frames.push(frame);
-        self.spot = Spot::At(BlockSpot {
-            block,
-            code,
-            at: 0,
-            level,
-            mode: Mode::Fresh,
-        });
-    }
-
-    /// The end of a block: its status row, and then the frame under it goes on.
-    #[tactic(auto, using(crate::proofs::Stored::frames_above))]
-    fn leave(&mut self)
-        requires sound { IsSound (config_of self.old) }
-        requires stored { IsStored self.old }
-        requires some { 0 < length (config_of self.old).frames }
-        ensures left { Follows Leaves (config_of self.old) None (config_of self.new) }
-        ensures waits { self.new.waits ≡ self.old.waits }
-        ensures sound { IsSound (config_of self.new) }
-        ensures stored { IsStored self.new }
-    {
-        let Some(frame) = self.frames.pop() else {
-            unreachable!()
-        };
-        let mut registers = self.memory.registers();
-        registers.status.after_block();
-        self.memory.end_block();
-        self.memory.set_registers(restored(&registers, &frame));
-        self.spot = frame.spot;
     }
 }
