@@ -45,6 +45,19 @@ module _ {A : Type 0} where
       let r = split_last (y ∷ rest) (omega arith) in
       (x ∷ r.0, r.1, ap (λ l. x ∷ l) r.2)
 
+  -- the last of a list is that of its tail, where this is not empty
+  pub last_above : (x y : A) (rest : List A) → last_of (x ∷ y ∷ rest) ≡ last_of (y ∷ rest)
+  last_above x y rest =
+      let r = split_last (y ∷ rest) (omega arith) in
+      ap (λ l. last_of (x ∷ l)) r.2 ∙ last_of-append (x ∷ r.0) r.1 ∙ sym (ap last_of r.2 ∙ last_of-append r.0 r.1)
+
+  pub without_last_above : (x y : A) (rest : List A) → without_last (x ∷ y ∷ rest) ≡ x ∷ without_last (y ∷ rest)
+  without_last_above x y rest =
+      let r = split_last (y ∷ rest) (omega arith) in
+      ap (λ l. without_last (x ∷ l)) r.2
+      ∙ without_last-append (x ∷ r.0) r.1
+      ∙ ap (λ l. x ∷ l) (sym (ap without_last r.2 ∙ without_last-append r.0 r.1))
+
   pub refill-same : (xs ys : List A) → length ys ≡ length xs → refill (length xs) xs ys ≡ ys
   refill-same xs ys n =
       ap (λ l. take (length xs) (ys ++ l)) (drop_all (length ys) xs (omega arith))

@@ -88,9 +88,9 @@ without_empty levels = if length (running_frames levels) == 0 then without_last 
 abbrev pub ended : List LevelState → List LevelState
 ended levels = without_empty (with_last left levels)
 
--- how many blocks have begun on each level
-abbrev pub block_counts : List LevelState → List ℕ
-block_counts levels = map (λ (level : LevelState). length level.frames) levels
+-- of each level its priority, and how many blocks have begun on it
+abbrev pub block_counts : List LevelState → List (ℕ × ℕ)
+block_counts levels = map (λ (level : LevelState). (level.prio, length level.frames)) levels
 
 -- its priority
 abbrev pub prio_of : Option LevelState → Option ℕ

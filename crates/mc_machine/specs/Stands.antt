@@ -1,5 +1,5 @@
 -- What it means that a machine stands for a program and the answers that it has taken.
-use Rattle.std.specs.Prelude.{◌≡◌, ◌≢◌, ℕ, suc, ◌+◌, ◌-◌, ◌*◌, ◌<◌, false, List, [], ◌∷◌, ◌++◌, length, drop, Option, Some, None, IfSome, IsTrue, is_some, if◌then◌else◌, slice_get, flat_map, replicate}
+use Rattle.std.specs.Prelude.{◌≡◌, ◌≢◌, ℕ, suc, ◌+◌, ◌-◌, ◌*◌, ◌<◌, false, List, [], ◌∷◌, ◌++◌, length, drop, Option, Some, None, IfSome, IsTrue, is_some, nat_lt, ◌==◌, ◌≤◌, if◌then◌else◌, slice_get, flat_map, replicate}
 use Rattle.std.specs.Int.{bytes_high_first}
 use Rattle.s7_events.specs.declared.entry.Ask.{Ask}
 use Rattle.s7_events.specs.declared.entry.Ask.TheVariants as asks
@@ -114,20 +114,42 @@ abbrev pub AreStacked : ℕ → List Frame → Type 0
 AreStacked n [] = Unit {0}
 AreStacked n (frame ∷ frames) = IsHigh n frame.place × AreStacked (suc n) frames
 
--- as many blocks have begun, on one level, as there are frames; or none has, and there is no level
-abbrev pub AreBegun : ℕ → List LevelState → Type 0
-AreBegun n [] = n ≡ 0
-AreBegun n (level ∷ []) = (n ≡ length level.frames) × (0 < n)
-AreBegun n (level ∷ other ∷ below) = ⊥
+-- how many priorities up to one a level may have: that of OB1; 7 to 15, of cyclic interrupts; 16 to 23, of process alarms; 25 and 26;
+-- and 28. That of the start-up, 27, which begins alone, counts as 26
+abbrev pub rank_of : ℕ → ℕ
+rank_of priority =
+    if nat_lt priority 7 then 1
+    else if nat_lt priority 24 then priority - 5
+    else if priority == 24 then 18
+    else if priority == 25 then 19
+    else if nat_lt priority 28 then 20
+    else 21
+
+-- level k, counted from 0, over which n blocks have begun that are not on the levels below: some of them on it, at most 24; and so
+-- many priorities are below its own as there are levels
+pub record IsLevel (k n : ℕ) (level : LevelState) : Type 0 where
+  pub some : 0 < length level.frames
+  pub few : length level.frames ≤ 24
+  pub part : length level.frames ≤ n
+  pub ranked : k < rank_of level.prio
+
+-- as many blocks have begun on the levels from level k on
+abbrev pub AreBegunFrom : ℕ → ℕ → List LevelState → Type 0
+AreBegunFrom k n [] = n ≡ 0
+AreBegunFrom k n (level ∷ levels) = IsLevel k n level × AreBegunFrom (suc k) (n - length level.frames) levels
+
+-- as many blocks have begun, on all levels together, as there are frames; so there are 21 levels at most
+pub record AreBegun (n : ℕ) (levels : List LevelState) : Type 0 where
+  pub from_below : AreBegunFrom 0 n levels
 
 pub record IsSound (c : Config) : Type 0 where
   pub high : IsHigh (length c.frames) c.place
   pub stacked : AreStacked 0 c.frames
   pub begun : AreBegun (length c.frames) c.memory.levels
 
--- a block more has begun on a level that runs, and 24 at most
+-- a block more has begun on a level that runs, and 504 at most on all levels
 abbrev pub IsDeeper : List LevelState → List LevelState → Type 0
-IsDeeper before after = (n : ℕ) → AreBegun n before → 0 < n → AreBegun (n + 1) after × (n < 24)
+IsDeeper before after = (n : ℕ) → AreBegun n before → 0 < n → AreBegun (n + 1) after × (n < 504)
 
 -- the place asks this request
 abbrev pub AsksAt : Config → Request → Type 0

@@ -24,8 +24,8 @@ use diag_buffer::Diag;
 use s7_base::{Answer, Ask, Blocks, DiagCode, Loss, Request, Side, StopCode};
 use statement_effects::{DecodedBlock, Flow, Instruction, Memory, Registers};
 
-/// How many frames there are: that of the cycle, and those of the blocks under the 24th of a level.
-const FRAMES: usize = 24;
+/// How many frames there are at most: one for each of the 24 blocks of 21 levels.
+const FRAMES: usize = 504;
 
 /// The place of a machine, what its statements see, and the frames under it.
 #[derive(Debug, Drop)]
@@ -660,7 +660,7 @@ impl Engine {
         requires stacked { AreStacked 0 (config_of self.old).frames }
         requires begun { AreBegun (length (config_of self.old).frames + 1) self.old.memory.levels }
         requires local { 20 ≤ length (running_locals self.old.memory.levels) }
-        requires room { length (config_of self.old).frames < 24 }
+        requires room { length (config_of self.old).frames < 504 }
         requires stored { IsStored self.old }
         requires here { IsHigh (length (config_of self.old).frames) (At spot.block spot.at (level_in spot.level) Fresh) }
         requires code { IsCode self.old.program spot.code spot.block }

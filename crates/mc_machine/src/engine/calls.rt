@@ -84,7 +84,7 @@ impl Engine {
     fn begin_called(&mut self, callee: BlockRef, spot: BlockSpot, inside: Registers)
         requires stacked { AreStacked 0 (config_of self.old).frames }
         requires begun { AreBegun (length (config_of self.old).frames + 1) self.old.memory.levels }
-        requires room { length (config_of self.old).frames < 24 }
+        requires room { length (config_of self.old).frames < 504 }
         requires stored { IsStored self.old }
         requires ready { self.old.waits ≡ None }
         requires here { IsHigh (length (config_of self.old).frames) (At spot.block spot.at (level_in spot.level) Fresh) }
@@ -112,7 +112,7 @@ impl Engine {
         requires stacked { AreStacked 0 (config_of self.old).frames }
         requires under { IsHigh (length (config_of self.old).frames) (frame_of frame).place }
         requires begun { AreBegun (length (config_of self.old).frames + 1) self.old.memory.levels }
-        requires room { length (config_of self.old).frames < 24 }
+        requires room { length (config_of self.old).frames < 504 }
         requires frames { AreIndexed self.old.program self.old.frames.items }
         requires indexed { IsIndexed self.old.program frame.spot }
         requires decoded { self.old.decoded.items ≡ decoded_codes self.old.program.codes }

@@ -41,7 +41,7 @@ impl Engine {
         requires under { IsHigh (length (config_of self.old).frames) (frame_of frame).place }
         requires begun { AreBegun (length (config_of self.old).frames + 1) self.old.memory.levels }
         requires local { 20 ≤ length (running_locals self.old.memory.levels) }
-        requires room { length (config_of self.old).frames < 24 }
+        requires room { length (config_of self.old).frames < 504 }
         requires frames { AreIndexed self.old.program self.old.frames.items }
         requires indexed { IsIndexed self.old.program frame.spot }
         requires decoded { self.old.decoded.items ≡ decoded_codes self.old.program.codes }
