@@ -20,7 +20,7 @@ use subsystem::Subsystem;
 use trace_printer::{SinkFault, print, print_load};
 use trace_text::Mode;
 
-/// What no CPU has yet in its tail: three kinds of diagnostic entries, and data blocks.
+/// Lines of a tail: three kinds of diagnostic entries, which no CPU has yet, and data blocks.
 fn the_definitions_write_what_no_cpu_has_yet()
     ensures notes { note_lines ((150, diag.Cycle) ∷ (151, diag.Ob85 40) ∷ (152, diag.Discrep 1022) ∷ [])
         ≡ codes "150 CYCLE\n151 OB85 40\n152 DISCREP 1022\n" }
