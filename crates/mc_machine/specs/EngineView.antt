@@ -77,7 +77,7 @@ decoded_codes codes = map (λ code. map instruction_of code.statements) codes
 abbrev pub decoded_in : List (List (Option Instruction)) → ℕ → ℕ → Option (Option Instruction)
 decoded_in decoded code at = slice_get decoded code >>= λ block. slice_get block at
 
--- the index of a block among the code blocks; behind them where it is not loaded
+-- the index of a block among the code blocks; past the last of them where it is not loaded
 abbrev pub IsCode : Program → ℕ → BlockRef → Type 0
 IsCode program code block = slice_get program.codes code ≡ code_of program block.kind block.number
 

@@ -262,7 +262,7 @@ flows program block at level memory flow.AskNow = Asks (request_of asks.Now (pri
 flows program block at level memory flow.AskRetrigger = Asks (request_of asks.Retrigger (priority_in memory))
 flows program block at level memory flow.Stop = Halts None memory stops.Sfc46
 
--- the statement at a place, unless 256 statements were completed since the last answer; behind the last the block ends
+-- the statement at a place, unless 256 statements were completed since the last answer; after the last the block ends
 abbrev pub runs : Program → BlockRef → ℕ → Level → ℕ → Memory → Option Statement → Turn
 runs program block at level since memory None = Leaves
 runs program block at level since memory (Some statement) =

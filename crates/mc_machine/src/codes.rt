@@ -17,7 +17,7 @@ fn is_named(code: &CodeBlock, block: BlockRef) -> bool
     code.kind() == block.kind && code.number() == block.number
 }
 
-/// The index of a block in a list of code blocks; behind the last of them where it is not there.
+/// The index of a block in a list of code blocks; past the last of them where it is not there.
 pub fn index_in(codes: &[CodeBlock], block: BlockRef) -> usize
     ensures { slice_get codes.now result ≡ code_named codes.now block.kind block.number }
 {

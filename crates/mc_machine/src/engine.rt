@@ -347,7 +347,7 @@ impl Engine {
         }
     }
 
-    /// The request is made again, perhaps behind a diagnostic entry.
+    /// The request is made again, perhaps after a diagnostic entry.
     fn repeat(&mut self, ask: &Ask, code: Option<DiagCode>)
         requires sound { IsSound (config_of self.old) }
         requires stored { IsStored self.old }
@@ -655,7 +655,7 @@ impl Engine {
         }
     }
 
-    /// The OB of an error begins, once it has its local data; at its end the statement behind the one that failed follows.
+    /// The OB of an error begins, once it has its local data; at its end the statement after the one that failed follows.
     fn begin_error_ob(&mut self, error: u8, spot: BlockSpot)
         requires stacked { AreStacked 0 (config_of self.old).frames }
         requires begun { AreBegun (length (config_of self.old).frames + 1) self.old.memory.levels }
@@ -672,9 +672,9 @@ impl Engine {
         ensures waits { self.new.waits ≡ self.old.waits }
     {
         let registers = self.memory.registers();
-        let behind = spot.at + 1;
+        let after = spot.at + 1;
         let frame = Frame {
-            spot: at_statement(spot, behind),
+            spot: at_statement(spot, after),
             kept: registers,
             returns: Returns::Whole,
         };

@@ -50,7 +50,7 @@ is_off memory = is_zone_off memory.registers.unit
 
 -- areas --
 
--- how many bytes an area has in any case: a data block may be missing
+-- how many bytes an area always has: a data block may be missing
 abbrev pub size_of : ByteArea → ℕ
 size_of I = 64
 size_of Q = 64

@@ -16,7 +16,7 @@ use cpu_image::ByteArea;
 use instruction_set::{OperandArea, OperandKind};
 use s7_base::{BlockRef, CodeKind, Statement};
 
-/// How many bytes an area has in any case.
+/// How many bytes an area always has.
 fn size_of(area: ByteArea) -> u16
     ensures { result ≡ size_of area }
 {

@@ -14,7 +14,7 @@ use level_stack::start_info;
 use statement_effects::Registers;
 
 impl Engine {
-    /// What an organisation block that begins on the level that runs is told.
+    /// The start information of an organisation block that begins on the level that runs.
     fn start_information(&self, number: u8, cause: Cause) -> [u8; 20]
         ensures { result ≡ start_information (config_of self.now).cycles self.now.at number (priority_in self.now.memory) cause }
     {
