@@ -384,6 +384,7 @@ fn programs_go_on_at_a_failover(rt: HostRuntime) -> Result<(), Fail> {
 const BLOCKS: &[u8] =
     b"DATA_BLOCK DB 7\nSTRUCT\na : INT;\nb : BOOL;\nEND_STRUCT\nBEGIN\nEND_DATA_BLOCK\n\
 FUNCTION FC 3 : VOID\nBEGIN\nEND_FUNCTION\n\
+ORGANIZATION_BLOCK OB 40\nBEGIN\nEND_ORGANIZATION_BLOCK\n\
 ORGANIZATION_BLOCK OB 1\nBEGIN\nA I 0.0;\n= Q 0.0;\nEND_ORGANIZATION_BLOCK\n";
 
 #[test]
@@ -391,8 +392,8 @@ fn blocks_are_told(rt: HostRuntime) -> Result<(), Fail> {
     let alloc = rt.alloc();
     // The room of the sink, the status, and what is written.
     let cases: [(u32, u8, &[u8]); 2] = [
-        (1000, 0, b"OB 1 2\nFC 3 0\nDB 7 4\nOK 3\n"),
-        (10, 7, b"OB 1 2\nFC "),
+        (1000, 0, b"OB 1 2\nOB 40 0\nFC 3 0\nDB 7 4\nOK 4\n"),
+        (10, 7, b"OB 1 2\nOB "),
     ];
     for (room, status, text) in cases {
         let mut files = files_of(alloc, BLOCKS, b"", None)?;
