@@ -12,9 +12,9 @@ module_lines = codes "MODULE IN 0 1 SWITCHED" ∷ codes "MODULE OUT 0 1 SWITCHED
 abbrev pub input_lines : ℕ → List (List ℕ)
 input_lines m = (codes "AT " ++ (decimal m ++ (codes " INPUT 0 " ++ hex_byte (m / 100 % 256)))) ∷ []
 
--- at each full thousand an alarm with its number
+-- at each full thousand an alarm with its number, which is below 256, as eight hexadecimal digits
 abbrev pub alarm_lines : ℕ → List (List ℕ)
-alarm_lines m = if m % 1000 == 0 then (codes "AT " ++ (decimal m ++ (codes " ALARM 40 " ++ decimal (m / 1000)))) ∷ [] else []
+alarm_lines m = if m % 1000 == 0 then (codes "AT " ++ (decimal m ++ (codes " ALARM 40 000000" ++ hex_byte (m / 1000)))) ∷ [] else []
 
 -- half way, at a full hundred, side B is lost
 abbrev pub loss_lines : ℕ → ℕ → List (List ℕ)

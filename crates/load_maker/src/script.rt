@@ -1,5 +1,5 @@
 //! Makes the script.
-ghost use Rattle.std.specs.Prelude.{◌≡◌, ◌≤◌, ◌++◌, IfOk, string_bytes};
+ghost use Rattle.std.specs.Prelude.{◌≡◌, ◌≤◌, ◌++◌, length, IfOk, string_bytes};
 ghost use Rattle.load_maker.specs.Lines.{text_of};
 ghost use Rattle.load_maker.specs.Script.{module_lines, input_lines, alarm_lines, loss_lines, moment_lines, all_moment_lines, end_lines, script_text};
 
@@ -38,7 +38,9 @@ fn push_alarm(text: &mut String, m: u32) -> Result<(), NoMemory>
         return Ok(());
     }
     let number = m / 1000;
-    let done = write!(text, "AT {m} ALARM 40 {number}\n");
+    let high = number / 16;
+    let low = number % 16;
+    let done = write!(text, "AT {m} ALARM 40 000000{high:X}{low:X}\n");
     if done.is_err() {
         return Err(NoMemory);
     }
@@ -97,11 +99,12 @@ fn push_end(text: &mut String, n: u32) -> Result<(), NoMemory>
 /// Returns the script for a day of n moments: an input byte and an output byte; at each full hundred another input, at
 /// each full thousand an alarm, and half way the loss of side B.
 ///
-/// Err where memory runs out.
+/// At most 1,048,576 bytes. Err where memory runs out.
 pub fn make_script(alloc: Global, n: u32) -> Result<Vec<u8>, NoMemory>
     requires low { 1000 ≤ n }
     requires high { n ≤ 100000 }
-    ensures { IfOk result (λ text. text.items ≡ script_text n) }
+    ensures text { IfOk result (λ text. text.items ≡ script_text n) }
+    ensures few { IfOk result (λ text. length text.items ≤ 1048576) }
 {
     let mut text = String::new(alloc);
     push_modules(&mut text)?;

@@ -1,5 +1,5 @@
 //! Makes the source.
-ghost use Rattle.std.specs.Prelude.{◌≡◌, ◌≤◌, ◌++◌, IfOk, string_bytes};
+ghost use Rattle.std.specs.Prelude.{◌≡◌, ◌≤◌, ◌++◌, length, IfOk, string_bytes};
 ghost use Rattle.load_maker.specs.Lines.{text_of};
 ghost use Rattle.load_maker.specs.Source.{organization_block_lines, function_lines, all_function_lines, source_text};
 
@@ -46,11 +46,12 @@ fn push_functions(text: &mut String, n: u32) -> Result<(), NoMemory>
 
 /// Returns the source for a day of n moments: OB1, OB40 and n/1000 functions.
 ///
-/// Err where memory runs out.
+/// At most 1,048,576 bytes. Err where memory runs out.
 pub fn make_source(alloc: Global, n: u32) -> Result<Vec<u8>, NoMemory>
     requires low { 1000 ≤ n }
     requires high { n ≤ 100000 }
-    ensures { IfOk result (λ text. text.items ≡ source_text n) }
+    ensures text { IfOk result (λ text. text.items ≡ source_text n) }
+    ensures few { IfOk result (λ text. length text.items ≤ 1048576) }
 {
     let mut text = String::new(alloc);
     push_organization_blocks(&mut text)?;

@@ -1,4 +1,5 @@
 use load_maker::*;
+use plant_script::read_script;
 use std::test::Fail;
 
 /// n = 1000: OB1, OB40 and one function.
@@ -62,7 +63,7 @@ const SCRIPT_2500: &[u8] = b"MODULE IN 0 1 SWITCHED\n\
     AT 800 INPUT 0 08\n\
     AT 900 INPUT 0 09\n\
     AT 1000 INPUT 0 0A\n\
-    AT 1000 ALARM 40 1\n\
+    AT 1000 ALARM 40 00000001\n\
     AT 1100 INPUT 0 0B\n\
     AT 1200 INPUT 0 0C\n\
     AT 1200 FAIL B\n\
@@ -74,7 +75,7 @@ const SCRIPT_2500: &[u8] = b"MODULE IN 0 1 SWITCHED\n\
     AT 1800 INPUT 0 12\n\
     AT 1900 INPUT 0 13\n\
     AT 2000 INPUT 0 14\n\
-    AT 2000 ALARM 40 2\n\
+    AT 2000 ALARM 40 00000002\n\
     AT 2100 INPUT 0 15\n\
     AT 2200 INPUT 0 16\n\
     AT 2300 INPUT 0 17\n\
@@ -102,6 +103,10 @@ fn scripts(rt: HostRuntime) -> Result<(), Fail> {
     assert_eq!(rt; small.as_slice(), SCRIPT_1000);
     let larger = make_script(rt.alloc(), 2500)?;
     assert_eq!(rt; larger.as_slice(), SCRIPT_2500);
+    // 24 inputs, 2 alarms and a loss
+    let script = read_script(rt.alloc(), &larger)?;
+    assert_eq!(rt; script.end(), 2500);
+    assert_eq!(rt; script.events().len(), 27);
     // 999 modulo 256 is 231
     let largest = make_script(rt.alloc(), 100_000)?;
     assert!(rt;
