@@ -1,20 +1,22 @@
 //! Tests of the machine. Programs are written in Statement List, with `@n` for the statement of number n, `W#` and `D#` for
 //! constants of 16 and 32 bits in hexadecimal, and `L#` for one of 32 bits in decimal.
-ghost use Rattle.std.specs.Prelude.{◌≡◌, IfOk, IsTrue};
-ghost use Rattle.mc_machine.specs.Meaning.{asked, is_built};
+ghost use Rattle.std.specs.Prelude.{◌≡◌, IfOk};
+ghost use Rattle.mc_machine.specs.Meaning.{asked};
 ghost use Rattle.mc_machine.specs.Stands.{IsRunning};
 ghost use Rattle.mc_machine.specs.Rung.{rung, rung_answers, rung_requests};
 
 use instruction_set::instruction_row;
 use mc_machine::*;
 use s7_base::{
-    Answer, Area, Ask, Blocks, CodeBlock, CodeKind, DiagCode, Loss, Request, Side, Statement,
-    StopCode, fits,
+    Answer, Area, Ask, Blocks, CodeBlock, CodeKind, DataBlock, DiagCode, Loss, Request, Side,
+    Statement, StopCode, fits,
 };
 use std::alloc::Global;
 use std::process::Abort;
 use std::test::Fail;
 
+mod alarms;
+mod jobs;
 mod logic;
 mod plays;
 mod values;
@@ -30,7 +32,7 @@ const STATUS_OPERANDS: [&str; 10] = [
 ];
 
 /// The area, the unit and the spelling of an operand's address.
-const ADDRESSES: [(&str, u8, u8); 14] = [
+const ADDRESSES: [(&str, u8, u8); 18] = [
     ("IB", 1, 8),
     ("IW", 1, 9),
     ("ID", 1, 10),
@@ -40,6 +42,10 @@ const ADDRESSES: [(&str, u8, u8); 14] = [
     ("MB", 3, 8),
     ("MW", 3, 9),
     ("MD", 3, 10),
+    ("LB", 4, 8),
+    ("LD", 4, 10),
+    ("DBB", 5, 8),
+    ("DB", 5, 0),
     ("I", 1, 0),
     ("Q", 2, 0),
     ("M", 3, 0),
@@ -134,22 +140,80 @@ fn push_all(all: &mut Vec<Statement>, text: &str) -> Result<(), Fail> {
     Ok(())
 }
 
-/// A machine that was loaded with OB1 of these statements.
-fn machine_with(alloc: Global, statements: Vec<Statement>) -> Result<Machine, Fail>
+/// A machine that was loaded with these blocks.
+fn machine_with_blocks(
+    alloc: Global,
+    codes: Vec<CodeBlock>,
+    data_blocks: Vec<DataBlock>,
+) -> Result<Machine, Fail>
     ensures { IfOk result IsRunning }
 {
-    let main = CodeBlock::new(CodeKind::Ob, 1, 0, statements);
-    let Some(blocks) = Blocks::of(vec![in alloc; main]?, Vec::new(alloc)) else {
+    let Some(blocks) = Blocks::of(codes, data_blocks) else {
         return Err("not well formed".into());
     };
-    if !is_playable(&blocks) {
-        return Err("not played".into());
+    if !is_runnable(&blocks) {
+        return Err("not supported".into());
     }
     let mut machine = Machine::new();
     if machine.load(alloc, &blocks).is_err() {
         return Err("no memory".into());
     }
     Ok(machine)
+}
+
+/// A machine that was loaded with OB1 of these statements.
+fn machine_with(alloc: Global, statements: Vec<Statement>) -> Result<Machine, Fail>
+    ensures { IfOk result IsRunning }
+{
+    let main = CodeBlock::new(CodeKind::Ob, 1, 0, statements);
+    machine_with_blocks(alloc, vec![in alloc; main]?, Vec::new(alloc))
+}
+
+/// An organisation block of a text, with 20 bytes of temporary data.
+fn block_of(alloc: Global, number: u8, text: &str) -> Result<CodeBlock, Fail> {
+    let mut statements = Vec::new(alloc);
+    push_all(&mut statements, text)?;
+    Ok(CodeBlock::new(CodeKind::Ob, number, 20, statements))
+}
+
+/// A machine that was loaded with organisation blocks, each a number and a text, and with DB5 and DB6, of 8 bytes each: those of
+/// DB5 are hexadecimal 55, those of DB6 are 66.
+fn machine_of_blocks(alloc: Global, texts: &[(u8, &str)]) -> Result<Machine, Fail>
+    ensures { IfOk result IsRunning }
+{
+    let mut codes = Vec::new(alloc);
+    for (number, text) in texts {
+        codes.push(block_of(alloc, *number, text)?)?;
+    }
+    let fives = DataBlock::new(5, vec![in alloc; 0x55; 8]?);
+    let sixes = DataBlock::new(6, vec![in alloc; 0x66; 8]?);
+    machine_with_blocks(alloc, codes, vec![in alloc; fives, sixes]?)
+}
+
+/// A step of a play: what is asked, with its priority, and the answer.
+type Step = (u8, Ask, Answer);
+
+/// Plays steps, the first of them at moment k.
+fn play(rt: &impl Abort, machine: &mut Machine, k: u64, steps: &[Step])
+    requires { IsRunning machine.old }
+    ensures { IsRunning machine.new }
+{
+    for (n, (prio, ask, answer)) in steps.iter().enumerate() {
+        let request = give(rt, machine, *answer, k.saturating_add(n as u64));
+        assert_eq!(rt; (n, request.prio, request.ask), (n, *prio, *ask));
+    }
+}
+
+/// The bytes of the bit memory at some addresses are these.
+fn assert_bit_memory(rt: &impl Abort, machine: &Machine, bytes: &[(u16, u8)])
+    requires { IsRunning machine.now }
+{
+    for (at_byte, byte) in bytes {
+        assert_eq!(rt;
+            (*at_byte, machine.image_byte(Area::M, *at_byte)),
+            (*at_byte, Some(*byte))
+        );
+    }
 }
 
 /// A machine that was loaded with OB1 of two texts.
@@ -165,7 +229,6 @@ fn machine_of(alloc: Global, text: &str, after: &str) -> Result<Machine, Fail>
 /// Gives an answer that fits, and tells what was asked.
 fn give(rt: &impl Abort, machine: &mut Machine, answer: Answer, moment: u64) -> Request
     requires running { IsRunning machine.old }
-    requires built { IsTrue (is_built answer) }
     ensures { IsRunning machine.new }
 {
     assert!(rt; !machine.stopped());

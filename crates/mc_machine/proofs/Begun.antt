@@ -29,7 +29,7 @@ rank_some p =
     cond_both (p == 25) _ _ (λ r. 0 < r) (λ _. omega arith)
     (λ _. cond_both (nat_lt p 28) _ _ (λ r. 0 < r) (λ _. omega arith) (λ _. omega arith)))))
 
-rank_most : (p : ℕ) → rank_of p ≤ 21
+pub rank_most : (p : ℕ) → rank_of p ≤ 21
 rank_most p =
     cond_both (nat_lt p 7) _ _ (λ r. r ≤ 21) (λ e. omega arith)
     (λ e.
@@ -83,7 +83,7 @@ level_more k n level block bytes is few =
     let part = is.part in
     record { some = omega arith; few = omega arith; part = omega arith; ranked = is.ranked }
 
-level_same : (k n : ℕ) (level : LevelState) → IsLevel k n level → IsLevel k (n + 1) level
+pub level_same : (k n : ℕ) (level : LevelState) → IsLevel k n level → IsLevel k (n + 1) level
 level_same k n level is = let part = is.part in record { some = is.some; few = is.few; part = omega arith; ranked = is.ranked }
 
 -- with one block more, where the level that runs had fewer than 24

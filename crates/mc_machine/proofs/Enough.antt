@@ -10,7 +10,7 @@ use Rattle.s7_events.specs.declared.entry.StopCode.{StopCode}
 use Rattle.s7_base.specs.Blocks.{Code, Program, code_of}
 use Rattle.statement_effects.specs.declared.areas.Registers.{Registers}
 use Rattle.statement_effects.specs.State.{Memory}
-use Rattle.mc_machine.specs.Places.{Level, Fresh, Ticking, Timing, Retriggering, Place, AtOutputs, AtInputs, AtCycle, AtStop, Over, At}
+use Rattle.mc_machine.specs.Places.{Level, Fresh, Ticking, Timing, Retriggering, Place, AtOutputs, AtInputs, AtCycle, AtReply, AtStop, Over, At}
 use Rattle.statement_effects.specs.declared.instruction.Flow.{Flow}
 use Rattle.statement_effects.specs.declared.instruction.Flow.TheVariants as flow
 use Rattle.statement_effects.specs.Areas.{with_registers, data_length}
@@ -113,6 +113,7 @@ pub counts_turn : (program : Program) (since : ℕ) (memory : Memory) (p : Place
 counts_turn program since memory AtOutputs = tt
 counts_turn program since memory AtInputs = tt
 counts_turn program since memory AtCycle = tt
+counts_turn program since memory (AtReply value) = tt
 counts_turn program since memory (AtStop code) = tt
 counts_turn program since memory Over = tt
 counts_turn program since memory (At block at level Timing) = tt

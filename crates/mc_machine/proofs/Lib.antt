@@ -1,7 +1,9 @@
+pub mod Alarms
 pub mod AreaBytes
 pub mod Asked
 pub mod Begun
 pub mod Enough
+pub mod Interrupting
 pub mod Keeps
 pub mod Row
 pub mod Sound

@@ -13,7 +13,7 @@ use Rattle.statement_effects.specs.declared.areas.Registers.{Registers}
 use Rattle.statement_effects.specs.State.{Memory}
 use Rattle.statement_effects.specs.Areas.{data_length}
 use Rattle.statement_effects.specs.Levels.{priority_in}
-use Rattle.mc_machine.specs.Places.{Level, Mode, Fresh, Ticking, Timing, Retriggering, Place, AtOutputs, AtInputs, AtCycle, AtStop, Over, At, Frame}
+use Rattle.mc_machine.specs.Places.{Level, Mode, Fresh, Ticking, Timing, Retriggering, Place, AtOutputs, AtInputs, AtCycle, AtReply, AtStop, Over, At, Frame}
 use Rattle.statement_effects.specs.declared.instruction.Flow.{Flow}
 use Rattle.statement_effects.specs.declared.instruction.Flow.TheVariants as flow
 use Rattle.statement_effects.specs.Effect.{effect_of, effect_if, asks_first}
@@ -25,7 +25,7 @@ use Rattle.mc_machine.specs.Stands.{Config, Follows, AsksAt, IsAsked, IsAskedAt,
 use Rattle.level_stack.specs.Levels.{LevelState, ended, block_counts}
 use Rattle.mc_machine.proofs.Begun.{no_level, one_less, main_over, same_begun}
 
-asked_failed : (next : Place) (level : Level) (memory : Memory) (error : ℕ) (r : Request) (o : Result Memory StopCode) → failed next level memory error o ≡ Asks r → ⊥
+pub asked_failed : (next : Place) (level : Level) (memory : Memory) (error : ℕ) (r : Request) (o : Result Memory StopCode) → failed next level memory error o ≡ Asks r → ⊥
 asked_failed next level memory error r (Ok inside) e = cc
 asked_failed next level memory error r (Err code) e = cc
 
@@ -33,11 +33,11 @@ asked_begun : (next : Place) (level : Level) (memory : Memory) (registers : Regi
 asked_begun next level memory registers callee r (Ok inside) e = cc
 asked_begun next level memory registers callee r (Err code) e = cc
 
-asked_called : (program : Program) (next : Place) (level : Level) (memory : Memory) (callee : BlockRef) (r : Request) (o : Option Code) → called program next level memory callee o ≡ Asks r → ⊥
+pub asked_called : (program : Program) (next : Place) (level : Level) (memory : Memory) (callee : BlockRef) (r : Request) (o : Option Code) → called program next level memory callee o ≡ Asks r → ⊥
 asked_called program next level memory callee r None e = asked_failed next level memory 7 r (error_entered program level memory 7) e
 asked_called program next level memory callee r (Some code) e = asked_begun next level memory (call_registers memory.registers) callee r (block_entered memory callee code) e
 
-asked_instance : (program : Program) (next : Place) (level : Level) (memory : Memory) (callee : BlockRef) (number : ℕ) (r : Request) (o : Option Code) (size : Option ℕ) → called_instance program next level memory callee number o size ≡ Asks r → ⊥
+pub asked_instance : (program : Program) (next : Place) (level : Level) (memory : Memory) (callee : BlockRef) (number : ℕ) (r : Request) (o : Option Code) (size : Option ℕ) → called_instance program next level memory callee number o size ≡ Asks r → ⊥
 asked_instance program next level memory callee number r None size e = asked_failed next level memory 7 r (error_entered program level memory 7) e
 asked_instance program next level memory callee number r (Some code) None e = asked_failed next level memory 8 r (error_entered program level memory 8) e
 asked_instance program next level memory callee number r (Some code) (Some size) e =
@@ -72,6 +72,7 @@ pub asked_at : (program : Program) (since : ℕ) (memory : Memory) (p : Place) (
 asked_at program since memory AtOutputs r e = let q : request_of (asks.Outputs memory.image.outputs) 1 ≡ r = cc in subst (λ (r : Request). IsAskedAt AtOutputs r.ask) q refl
 asked_at program since memory AtInputs r e = let q : request_of asks.Inputs 1 ≡ r = cc in subst (λ (r : Request). IsAskedAt AtInputs r.ask) q refl
 asked_at program since memory AtCycle r e = let q : request_of asks.Cycle 1 ≡ r = cc in subst (λ (r : Request). IsAskedAt AtCycle r.ask) q refl
+asked_at program since memory (AtReply value) r e = let q : request_of (asks.Reply value) 1 ≡ r = cc in subst (λ (r : Request). IsAskedAt (AtReply value) r.ask) q refl
 asked_at program since memory (AtStop code) r e = let q : stop_request code ≡ r = cc in subst (λ (r : Request). IsAskedAt (AtStop code) r.ask) q refl
 asked_at program since memory Over r e = absurd cc
 asked_at program since memory (At block at level Fresh) r e = asked_run program block at level since memory r (slice_get (statements_of program block) at) e
@@ -92,7 +93,7 @@ is_asked p (asks.Stop code) h = tt
 is_asked p (asks.ReadP addr width) h = absurd h
 is_asked p (asks.WriteP addr width value) h = absurd h
 is_asked p asks.Retrigger h = tt
-is_asked p (asks.Reply value) h = absurd h
+is_asked p (asks.Reply value) h = tt
 
 -- what a place asks is one of those
 pub asks_asked : (c : Config) (r : Request) → AsksAt c r → IsAsked r.ask

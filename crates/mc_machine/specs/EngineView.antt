@@ -18,7 +18,7 @@ use Rattle.statement_effects.specs.declared.areas.Registers.{Registers}
 use Rattle.mc_machine.specs.declared.places.Returns.{Returns}
 use Rattle.mc_machine.specs.declared.places.Returns.TheVariants as returns
 use Rattle.mc_machine.specs.declared.places.Frame.{Frame as StoredFrame}
-use Rattle.mc_machine.specs.Places.{Level, Mode, Fresh, Ticking, Timing, Retriggering, Place, AtOutputs, AtInputs, AtCycle, AtStop, Over, At, Kept, Whole, Brackets, Frame}
+use Rattle.mc_machine.specs.Places.{Level, Mode, Fresh, Ticking, Timing, Retriggering, Place, AtOutputs, AtInputs, AtCycle, AtReply, AtStop, Over, At, Kept, Whole, Brackets, Frame}
 use Rattle.mc_machine.specs.Stands.{Config, Running}
 
 abbrev pub level_in : StoredLevel → Level
@@ -34,6 +34,7 @@ abbrev pub place_of : Spot → Place
 place_of spots.AtOutputs = AtOutputs
 place_of spots.AtInputs = AtInputs
 place_of spots.AtCycle = AtCycle
+place_of (spots.AtReply value) = AtReply value
 place_of (spots.AtStop code) = AtStop code
 place_of spots.Over = Over
 place_of (spots.At spot) = At spot.block spot.at (level_in spot.level) (mode_of spot.mode)
@@ -66,6 +67,7 @@ gone_to (At block at level mode) next = At block next level mode
 gone_to AtOutputs next = AtOutputs
 gone_to AtInputs next = AtInputs
 gone_to AtCycle next = AtCycle
+gone_to (AtReply value) next = AtReply value
 gone_to (AtStop code) next = AtStop code
 gone_to Over next = Over
 
@@ -95,6 +97,7 @@ abbrev pub IsIndexed : Program → Spot → Type 0
 IsIndexed program spots.AtOutputs = Unit {0}
 IsIndexed program spots.AtInputs = Unit {0}
 IsIndexed program spots.AtCycle = Unit {0}
+IsIndexed program (spots.AtReply value) = Unit {0}
 IsIndexed program (spots.AtStop code) = Unit {0}
 IsIndexed program spots.Over = Unit {0}
 IsIndexed program (spots.At spot) = IsCode program spot.code spot.block

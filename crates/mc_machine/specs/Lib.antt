@@ -2,6 +2,6 @@ pub mod BlockRuns
 pub mod EngineView
 pub mod Meaning
 pub mod Places
-pub mod Playable
+pub mod Runnable
 pub mod Rung
 pub mod Stands

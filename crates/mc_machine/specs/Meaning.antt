@@ -1,5 +1,5 @@
 -- The standard CPU: what a program means, by one recursion over places and answers.
-use Rattle.std.specs.Prelude.{ℕ, zero, suc, ◌+◌, ◌-◌, ◌*◌, ◌%◌, ◌^◌, ◌==◌, Bool, true, false, nat_lt, if◌then◌else◌, ◌&&◌, List, [], ◌∷◌, ◌++◌, length, Option, Some, None, Result, Ok, Err, slice_get}
+use Rattle.std.specs.Prelude.{ℕ, zero, suc, ◌+◌, ◌-◌, ◌*◌, ◌%◌, ◌^◌, ◌==◌, Bool, true, false, nat_lt, if◌then◌else◌, ◌&&◌, ◌||◌, List, [], ◌∷◌, ◌++◌, length, Option, Some, None, Result, Ok, Err, slice_get}
 use Rattle.s7_base.specs.declared.statement.Statement.{Statement}
 use Rattle.s7_base.specs.declared.blocks.BlockRef.{BlockRef}
 use Rattle.s7_base.specs.declared.blocks.CodeKind.{CodeKind}
@@ -17,7 +17,7 @@ use Rattle.s7_events.specs.declared.diagnostics.DiagCode.TheVariants as notes
 use Rattle.s7_base.specs.Blocks.{Code, Program, code_of}
 use Rattle.diag_buffer.specs.declared.note.Note.{Note}
 use Rattle.s7_events.specs.Fitting.{fits}
-use Rattle.s7_events.specs.Priorities.{priority_of}
+use Rattle.s7_events.specs.Priorities.{is_process, priority_of}
 use Rattle.s7_events.specs.declared.entry.StopCode.{StopCode}
 use Rattle.s7_events.specs.declared.entry.StopCode.TheVariants as stops
 use Rattle.bit_unit.specs.State.{cleared_unit}
@@ -29,8 +29,8 @@ use Rattle.statement_effects.specs.State.{Memory}
 use Rattle.statement_effects.specs.Levels.{priority_in, with_level, entered, with_start, without_block}
 use Rattle.statement_effects.specs.declared.areas.Registers.{Registers}
 use Rattle.mc_machine.specs.declared.places.Cause.{Cause}
-use Rattle.mc_machine.specs.declared.places.Cause.TheVariants.{CpuStarted, CycleBegan, StatementFailed}
-use Rattle.mc_machine.specs.Places.{Level, Mode, Fresh, Ticking, Timing, Retriggering, Place, AtOutputs, AtInputs, AtCycle, AtStop, Over, At, Kept, Whole, Brackets, Frame}
+use Rattle.mc_machine.specs.declared.places.Cause.TheVariants.{CpuStarted, CycleBegan, StatementFailed, AlarmCame, BlockMissing}
+use Rattle.mc_machine.specs.Places.{Level, Mode, Fresh, Ticking, Timing, Retriggering, Place, AtOutputs, AtInputs, AtCycle, AtReply, AtStop, Over, At, Kept, Whole, Brackets, Frame}
 use Rattle.statement_effects.specs.declared.instruction.Instruction.{Instruction}
 use Rattle.statement_effects.specs.declared.instruction.Instruction.TheVariants.{Timed, Retrigger}
 use Rattle.statement_effects.specs.declared.instruction.Flow.{Flow}
@@ -40,6 +40,7 @@ use Rattle.statement_effects.specs.Reading.{instruction_of}
 use Rattle.statement_effects.specs.TimerEffect.{effect_timed}
 use Rattle.statement_effects.specs.Effect.{effect_of}
 use Rattle.statement_effects.specs.JumpEffect.{effect_end}
+use Rattle.statement_effects.specs.JobEffect.{job_done}
 
 -- the cycles so far: the moment at which the last one began, when its output image had been put out, 0 before any; how
 -- long the one before it took, in milliseconds, at most 32,767, and 0 in the first; and whether the first one is over
@@ -150,23 +151,30 @@ entered_if missing memory block (Some code) = block_entered memory block code
 abbrev pub organisation_block : ℕ → BlockRef
 organisation_block number = record { kind = Ob; number = number }
 
--- byte 1 of the start information: 3 in each OB1 but the first, and of an error OB the error
+-- byte 1 of the start information: of OB100 and of the first OB1 it is 1, of each later OB1 3, of an error OB the error, and else 0
 abbrev pub start_byte : Bool → Cause → ℕ
 start_byte first_over CpuStarted = 1
 start_byte first_over CycleBegan = if first_over then 3 else 1
 start_byte first_over (StatementFailed error) = error
+start_byte first_over (AlarmCame info) = 0
+start_byte first_over (BlockMissing number) = 0
 
--- the info in it: of OB1 how long the cycle before took
+-- the info in it: of OB1 how long the cycle before took; of the OB of an alarm that of the alarm; of OB85 the number of the block that
+-- is missing
 abbrev pub start_value : ℕ → Cause → ℕ
 start_value last_length CpuStarted = 0
 start_value last_length CycleBegan = last_length
 start_value last_length (StatementFailed error) = 0
+start_value last_length (AlarmCame info) = info
+start_value last_length (BlockMissing number) = number
 
 -- the moment in it: that of the last answer, of which it has the low 32 bits, and none of OB1
 abbrev pub start_moment : ℕ → Cause → ℕ
 start_moment at CpuStarted = at % 2 ^ 32
 start_moment at CycleBegan = 0
 start_moment at (StatementFailed error) = at % 2 ^ 32
+start_moment at (AlarmCame info) = at % 2 ^ 32
+start_moment at (BlockMissing number) = at % 2 ^ 32
 
 -- the start information of an organisation block on a level of a priority, where the last answer was that of this moment
 abbrev pub start_information : Cycles → ℕ → ℕ → ℕ → Cause → List ℕ
@@ -275,6 +283,7 @@ abbrev pub turn_of : Program → ℕ → Memory → Place → Turn
 turn_of program since memory AtOutputs = Asks (request_of (asks.Outputs memory.image.outputs) 1)
 turn_of program since memory AtInputs = Asks (request_of asks.Inputs 1)
 turn_of program since memory AtCycle = Asks (request_of asks.Cycle 1)
+turn_of program since memory (AtReply value) = Asks (request_of (asks.Reply value) 1)
 turn_of program since memory (AtStop code) = Asks (stop_request code)
 turn_of program since memory Over = Ends
 turn_of program since memory (At block at level Fresh) = runs program block at level since memory (slice_get (statements_of program block) at)
@@ -304,6 +313,7 @@ again ask (At block at level mode) = At block at level (again_mode ask mode)
 again ask AtOutputs = AtOutputs
 again ask AtInputs = AtInputs
 again ask AtCycle = AtCycle
+again ask (AtReply value) = AtReply value
 again ask (AtStop code) = AtStop code
 again ask Over = Over
 
@@ -313,6 +323,7 @@ resumed (At block at level mode) = At block at level Fresh
 resumed AtOutputs = AtOutputs
 resumed AtInputs = AtInputs
 resumed AtCycle = AtCycle
+resumed (AtReply value) = AtReply value
 resumed (AtStop code) = AtStop code
 resumed Over = Over
 
@@ -364,6 +375,7 @@ timed_at program memory (At block at level mode) moment = timed_by program block
 timed_at program memory AtOutputs moment = Again None (Goes memory AtOutputs)
 timed_at program memory AtInputs moment = Again None (Goes memory AtInputs)
 timed_at program memory AtCycle moment = Again None (Goes memory AtCycle)
+timed_at program memory (AtReply value) moment = Again None (Goes memory (AtReply value))
 timed_at program memory (AtStop code) moment = Again None (Goes memory (AtStop code))
 timed_at program memory Over moment = Again None (Goes memory Over)
 
@@ -379,18 +391,64 @@ retriggered_at program memory (At block at level mode) = retriggered_by block at
 retriggered_at program memory AtOutputs = Again None (Goes memory AtOutputs)
 retriggered_at program memory AtInputs = Again None (Goes memory AtInputs)
 retriggered_at program memory AtCycle = Again None (Goes memory AtCycle)
+retriggered_at program memory (AtReply value) = Again None (Goes memory (AtReply value))
 retriggered_at program memory (AtStop code) = Again None (Goes memory (AtStop code))
 retriggered_at program memory Over = Again None (Goes memory Over)
 
--- alarms and jobs are not answered yet
-abbrev pub is_built : Answer → Bool
-is_built (answers.Alarm ob info) = false
-is_built (answers.Job job) = false
-is_built _ = true
+-- alarms --
+
+-- the diagnostic entry of an alarm: for OB80 that a cycle takes long, for OB70 the address of the module whose sides differ
+abbrev pub alarm_note : ℕ → ℕ → Option DiagCode
+alarm_note ob info = if ob == 80 then Some notes.Cycle else if ob == 70 then Some (notes.Discrep info) else None
+
+-- an alarm of a process or of a module wants OB85 where its own block is not loaded
+abbrev pub wants_substitute : ℕ → Bool
+wants_substitute ob = is_process ob || ob == 82
+
+-- the level of an organisation block that an alarm starts
+abbrev pub alarm_level : Level
+alarm_level = record { in_error = false }
+
+-- an organisation block begins on a level of its own, of its priority, with clear registers and some bytes of local data
+abbrev pub level_begun : Memory → ℕ → ℕ → Result Memory StopCode
+level_begun memory number bytes =
+    or_stop (entered (with_registers (with_level memory (priority_of number)) clear_registers) (organisation_block number) bytes)
+
+-- the same with its own local data
+abbrev pub level_entered : Memory → ℕ → Code → Result Memory StopCode
+level_entered memory number code = level_begun memory number (local_bytes_of code)
+
+-- An organisation block interrupts a place, which goes on at its end with the registers that there were. It is refused only for
+-- want of local data, and then the CPU asks to stop.
+abbrev pub interrupts : Place → Memory → ℕ → Cause → Result Memory StopCode → Move
+interrupts place memory number cause (Ok inside) = Begins inside number alarm_level cause (record { place = place; kept = Whole memory.registers })
+interrupts place memory number cause (Err code) = Goes memory (AtStop code)
+
+-- OB85 runs in place of a block that is not loaded; where it is not loaded either, the CPU asks to stop
+abbrev pub substituted : Place → Memory → ℕ → Option Code → Move
+substituted place memory ob None = Goes memory (AtStop stops.NoOb85)
+substituted place memory ob (Some code) = interrupts place memory 85 (BlockMissing ob) (level_entered memory 85 code)
+
+-- an alarm whose block is not loaded
+abbrev pub missing : Program → Place → Memory → ℕ → ℕ → Reaction
+missing program place memory ob info =
+    if wants_substitute ob then Again (Some (notes.Ob85 ob)) (substituted place memory ob (code_of program Ob 85))
+    else Again (alarm_note ob info) (Goes memory place)
+
+abbrev pub alarmed_if : Program → Place → Memory → ℕ → ℕ → Option Code → Reaction
+alarmed_if program place memory ob info None = missing program place memory ob info
+alarmed_if program place memory ob info (Some code) =
+    Again (alarm_note ob info) (interrupts place memory ob (AlarmCame info) (level_entered memory ob code))
+
+-- an alarm comes at a place: its block runs first
+abbrev pub alarmed : Program → Place → Memory → ℕ → ℕ → Reaction
+alarmed program place memory ob info = alarmed_if program place memory ob info (code_of program Ob ob)
+
+-- what an answer is --
 
 -- the CPU takes this answer to this request
 abbrev pub takes : Request → Answer → Bool
-takes request answer = fits request answer && is_built answer
+takes request answer = fits request answer
 
 -- an answer Now is that of its own moment
 abbrev pub is_dated : ℕ → Answer → Bool
@@ -412,13 +470,16 @@ abbrev pub answered : Program → Memory → Place → Ask → Answer → Reacti
 answered program memory place ask (answers.Lost side why) = Again (Some (lost_note side why)) (Goes memory (again ask place))
 answered program memory place ask (answers.Back side) = Again (Some (notes.Back side)) (Goes memory (again ask place))
 answered program memory place ask answers.Hold = Again None (Goes memory (again ask place))
+answered program memory place ask (answers.Alarm ob info) = alarmed program (again ask place) memory ob info
 answered program memory place ask (answers.CpuStop code) = Again (Some (notes.Stop code)) (Goes memory Over)
 answered program memory place (asks.Outputs image) answers.Done = Again None (Goes memory AtInputs)
 answered program memory place asks.Inputs (answers.Image image) = Again None (begins_main program memory image)
 answered program memory place asks.Cycle answers.Go = Again None (Goes memory AtOutputs)
+answered program memory place asks.Cycle (answers.Job job) = Again None (Goes (job_done memory job).0 (AtReply (job_done memory job).1))
 answered program memory place asks.Tick answers.Done = Again None (Goes memory (resumed place))
 answered program memory place asks.Now (answers.Now moment) = timed_at program memory place moment
 answered program memory place asks.Retrigger answers.Done = retriggered_at program memory place
+answered program memory place (asks.Reply value) answers.Done = Again None (Goes memory AtCycle)
 answered program memory place (asks.Stop code) answers.Done = Again (Some (notes.Stop code)) (Goes memory Over)
 answered program memory place _ _ = Again None (Goes memory place)
 

@@ -1,5 +1,5 @@
 -- Where a CPU stands.
-use Rattle.std.specs.Prelude.{ℕ, Bool}
+use Rattle.std.specs.Prelude.{ℕ, Bool, Option}
 use Rattle.s7_base.specs.declared.blocks.BlockRef.{BlockRef}
 use Rattle.s7_events.specs.declared.entry.StopCode.{StopCode}
 use Rattle.bit_unit.specs.State.{BitState}
@@ -18,16 +18,18 @@ pub data Mode : Type 0 where
   Retriggering : Mode
 
 -- at the start of a cycle, where the CPU asks to put out the output image; where it asks for the input image; at the end
--- of a cycle; where it asks to stop; where it has stopped; at a statement of a block, counted from 0
+-- of a cycle; where it hands on what a job read, or that its bytes are not there; where it asks to stop; where it has stopped;
+-- at a statement of a block, counted from 0
 pub data Place : Type 0 where
   AtOutputs : Place
   AtInputs : Place
   AtCycle : Place
+  AtReply : (value : Option ℕ) → Place
   AtStop : (code : StopCode) → Place
   Over : Place
   At : (block : BlockRef) (at : ℕ) (level : Level) (mode : Mode) → Place
 
--- what comes back when a block ends: after an error OB all registers, and after a block that was called the open groups and
+-- what comes back when a block ends: after an error OB, and after the first block of a level, all registers, and after a block that was called the open groups and
 -- zones, whether the MCR is active, and which data blocks are opened
 pub data Kept : Type 0 where
   Whole : (registers : Registers) → Kept

@@ -5,6 +5,8 @@ use Rattle.s7_events.specs.declared.entry.Ask.{Ask}
 use Rattle.s7_events.specs.declared.entry.Ask.TheVariants as asks
 use Rattle.s7_events.specs.declared.entry.Request.{Request}
 use Rattle.s7_events.specs.declared.entry.Answer.{Answer}
+use Rattle.s7_events.specs.declared.entry.Answer.TheVariants as answers
+use Rattle.s7_events.specs.Priorities.{is_alarm, priority_of}
 use Rattle.s7_events.specs.declared.diagnostics.DiagCode.{DiagCode}
 use Rattle.s7_events.specs.declared.diagnostics.Area.{Area}
 use Rattle.s7_events.specs.declared.diagnostics.Area.TheVariants.{I, Q, M, Db, Timers, Counters, Registers}
@@ -17,7 +19,7 @@ use Rattle.cpu_image.specs.Image as image
 use Rattle.cpu_image.specs.Pages as image_pages
 use Rattle.statement_effects.specs.State.{Memory}
 use Rattle.statement_effects.specs.Levels.{priority_in, with_start}
-use Rattle.mc_machine.specs.Places.{Level, Mode, Place, AtOutputs, AtInputs, AtCycle, AtStop, Over, At, Fresh, Frame}
+use Rattle.mc_machine.specs.Places.{Level, Mode, Place, AtOutputs, AtInputs, AtCycle, AtReply, AtStop, Over, At, Fresh, Frame}
 use Rattle.timers.specs.Bytes as timer_form
 use Rattle.counters.specs.Bytes as counter_form
 use Rattle.statement_effects.specs.Areas.{with_registers, data_length, start_memory}
@@ -105,6 +107,7 @@ abbrev pub IsHigh : ℕ → Place → Type 0
 IsHigh n AtOutputs = n ≡ 0
 IsHigh n AtInputs = n ≡ 0
 IsHigh n AtCycle = n ≡ 0
+IsHigh n (AtReply value) = n ≡ 0
 IsHigh n (AtStop code) = Unit {0}
 IsHigh n Over = ⊥
 IsHigh n (At block at level mode) = 0 < n
@@ -151,6 +154,21 @@ pub record IsSound (c : Config) : Type 0 where
 abbrev pub IsDeeper : List LevelState → List LevelState → Type 0
 IsDeeper before after = (n : ℕ) → AreBegun n before → 0 < n → AreBegun (n + 1) after × (n < 504)
 
+-- a level more has begun, and on it one block
+abbrev pub IsHigher : List LevelState → List LevelState → Type 0
+IsHigher before after = (n : ℕ) → AreBegun n before → AreBegun (n + 1) after × (n < 504)
+
+-- the block of an alarm may interrupt: it is of a higher priority than the level that runs; and the info of OB70 is an address
+pub record Interrupts (memory : Memory) (ob info : ℕ) : Type 0 where
+  pub alarm : IsTrue (is_alarm ob)
+  pub above : priority_in memory < priority_of ob
+  pub narrow : ob ≡ 70 → info ≤ 65535
+
+-- an alarm that is answered may interrupt
+abbrev pub MayInterrupt : Memory → Answer → Type 0
+MayInterrupt memory (answers.Alarm ob info) = Interrupts memory ob info
+MayInterrupt memory _ = Unit {0}
+
 -- the place asks this request
 abbrev pub AsksAt : Config → Request → Type 0
 AsksAt c request = turn_of c.program c.since c.memory c.place ≡ Asks request
@@ -165,10 +183,10 @@ IsAskedAt place (asks.ReadP addr width) = ⊥
 IsAskedAt place (asks.WriteP addr width value) = ⊥
 IsAskedAt place asks.Now = (block : BlockRef) × (at : ℕ) × (level : Level) × (mode : Mode) × (place ≡ At block at level mode)
 IsAskedAt place asks.Retrigger = (block : BlockRef) × (at : ℕ) × (level : Level) × (mode : Mode) × (place ≡ At block at level mode)
-IsAskedAt place (asks.Reply value) = ⊥
+IsAskedAt place (asks.Reply value) = place ≡ AtReply value
 IsAskedAt place (asks.Stop code) = place ≡ AtStop code
 
--- what is asked so far; direct access and jobs are not
+-- what is asked so far; direct access is not
 abbrev pub IsAsked : Ask → Type 0
 IsAsked (asks.Outputs image) = Unit {0}
 IsAsked asks.Inputs = Unit {0}
@@ -178,7 +196,7 @@ IsAsked (asks.ReadP addr width) = ⊥
 IsAsked (asks.WriteP addr width value) = ⊥
 IsAsked asks.Now = Unit {0}
 IsAsked asks.Retrigger = Unit {0}
-IsAsked (asks.Reply value) = ⊥
+IsAsked (asks.Reply value) = Unit {0}
 IsAsked (asks.Stop code) = Unit {0}
 
 -- what stood for a program and answers stands for them still

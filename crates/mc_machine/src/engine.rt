@@ -7,12 +7,14 @@ ghost use Rattle.statement_effects.specs.Areas.{start_memory};
 ghost use Rattle.statement_effects.specs.Levels.{priority_in};
 ghost use Rattle.level_stack.specs.Levels.{running_locals};
 ghost use Rattle.mc_machine.specs.Meaning.{error_registers, failed, fails, begun, calls, turn_of, flows, jump_among, cycle_length, cycles_after, answered, takes, stops_cpu, begins_main, lost_note, again_mode, again, resumed, timed_at, retriggered_at, Waits, std, request_of, stop_request};
-ghost use Rattle.mc_machine.specs.Stands.{state_of, with_newest, start_config, StandsFor, IsMoved, IsTurned, halts_with, Reacts, Follows, register_head, register_bytes, IsHigh, AreStacked, AreBegun, IsSound, IsValid, IsAskedAt, AsksAt, Keeps, IsTaken, IsDated, IsAsked, GoesOn};
+ghost use Rattle.mc_machine.specs.Stands.{state_of, with_newest, start_config, StandsFor, IsMoved, IsTurned, halts_with, Reacts, Follows, register_head, register_bytes, IsHigh, AreStacked, AreBegun, IsSound, IsValid, IsAskedAt, AsksAt, Keeps, IsTaken, IsDated, IsAsked, GoesOn, MayInterrupt};
 ghost use Rattle.mc_machine.specs.Places.{AtInputs, AtStop, Over, At, Fresh};
 ghost use Rattle.mc_machine.specs.EngineView.{level_in, mode_of, place_of, config_of, running_of, decoded_codes, gone_to, IsCode, IsIndexed, IsStored};
 ghost use Rattle.s7_events.specs.declared.entry.Ask.{Ask};
 
+mod alarms;
 mod calls;
+mod jobs;
 mod starts;
 
 use crate::codes::{decoded_at, end_of, instruction_in};
@@ -324,6 +326,7 @@ impl Engine {
         requires stored { IsStored self.old }
         requires asked { IsAskedAt (config_of self.old).place request.ask }
         requires fits { IsTrue (takes request answer.now) }
+        requires above { MayInterrupt self.old.memory answer.now }
         requires fresh { self.old.since ≡ 0 }
         ensures reacts { Reacts (answered self.old.program self.old.memory (config_of self.old).place request.ask answer.now) (config_of self.old) self.old.at (config_of self.new) }
         ensures sound { (config_of self.new).place ≢ Over → IsSound (config_of self.new) }
@@ -335,10 +338,13 @@ impl Engine {
             (ask, Answer::Lost { side, why }) => self.repeat(&ask, Some(lost_code(*side, *why))),
             (ask, Answer::Back { side }) => self.repeat(&ask, Some(DiagCode::Back(*side))),
             (ask, Answer::Hold) => self.repeat(&ask, None),
+            (ask, Answer::Alarm { ob, info }) => self.alarm(&ask, *ob, *info),
             (_, Answer::CpuStop(code)) => self.end(*code),
             (Ask::Outputs(_), Answer::Done) => self.spot = Spot::AtInputs,
             (Ask::Inputs, Answer::Image(image)) => self.begin_main(*image),
             (Ask::Cycle, Answer::Go) => self.spot = Spot::AtOutputs,
+            (Ask::Cycle, Answer::Job(job)) => self.do_job(job),
+            (Ask::Reply(_), Answer::Done) => self.spot = Spot::AtCycle,
             (Ask::Tick, Answer::Done) => self.resume_block(),
             (Ask::Now, Answer::Now(moment)) => self.time(*moment),
             (Ask::Retrigger, Answer::Done) => self.retrigger(),
@@ -518,6 +524,7 @@ impl Engine {
             }
             Spot::AtInputs => self.wait_at(request(Ask::Inputs, 1)),
             Spot::AtCycle => self.wait_at(request(Ask::Cycle, 1)),
+            Spot::AtReply(value) => self.wait_at(request(Ask::Reply(value), 1)),
             Spot::AtStop(code) => self.wait_at(stop_request(code)),
             Spot::Over => unreachable!(),
             Spot::At(spot) => self.act(spot),

@@ -1,10 +1,12 @@
 //! How blocks begin, and what an error leads to.
-ghost use Rattle.std.specs.Prelude.{◌≡◌, ◌<◌, ◌≤◌, [], length, Ok, Err, OnOk, OnErr, IfErr};
+ghost use Rattle.std.specs.Prelude.{◌≡◌, ◌<◌, ◌≤◌, [], length, Ok, Err, OnOk, OnErr, IfErr, IfSome, IsTrue};
+ghost use Rattle.std.specs.Option.{option_map};
+ghost use Rattle.s7_events.specs.Priorities.{has_priority, priority_of};
 ghost use Rattle.s7_base.specs.declared.blocks.CodeKind.{CodeKind};
 ghost use Rattle.s7_base.specs.Blocks.{code_of};
 ghost use Rattle.level_stack.specs.Levels.{running_locals};
-ghost use Rattle.mc_machine.specs.Meaning.{local_bytes_of, local_bytes_in, stop_of, block_entered, startup_entered, main_entered, error_ob, no_error_ob, error_entered, error_registers, call_registers, instance_registers, restored, start_byte, start_value, start_moment};
-ghost use Rattle.mc_machine.specs.Stands.{AreBegun, IsDeeper};
+ghost use Rattle.mc_machine.specs.Meaning.{local_bytes_of, local_bytes_in, stop_of, block_entered, startup_entered, main_entered, level_begun, error_ob, no_error_ob, error_entered, error_registers, call_registers, instance_registers, restored, start_byte, start_value, start_moment};
+ghost use Rattle.mc_machine.specs.Stands.{AreBegun, IsDeeper, IsHigher, rank_of};
 ghost use Rattle.mc_machine.specs.EngineView.{level_in, kept_of, AreFound};
 
 use crate::index::CodeIndex;
@@ -83,6 +85,41 @@ fn ob_bytes(program: &Blocks, index: &CodeIndex, number: u8) -> u16
     match index.code(program, ob(number)) {
         Some(code) => local_bytes(code),
         None => 20,
+    }
+}
+
+/// The local bytes of an organisation block. None exactly where it is not loaded.
+#[tactic(auto, using(crate::proofs::Begun::ob_has))]
+pub fn bytes_of_ob(program: &Blocks, index: &CodeIndex, number: u8) -> Option<u16>
+    requires { AreFound program.now.codes index.now }
+    ensures bytes { result ≡ option_map local_bytes_of (code_of program.now CodeKind.Ob number) }
+    ensures enough { IfSome result (λ bytes. 20 ≤ bytes) }
+{
+    index.code(program, ob(number)).map(local_bytes)
+}
+
+/// Begins an organisation block on a level of its own, over the levels that there are, with clear registers and with `bytes` bytes
+/// of local data.
+///
+/// # Errors
+/// The stop where it has no local data. Nothing changes.
+#[tactic(auto, using(crate::proofs::Interrupting::few_levels, crate::proofs::Interrupting::level_begins, crate::proofs::Begun::first_has, crate::proofs::Interrupting::cleared_begins, crate::proofs::Interrupting::cleared_refused))]
+pub fn enter_level(memory: &mut Memory, number: u8, bytes: u16) -> Result<(), StopCode>
+    requires starts { IsTrue (has_priority number) }
+    requires room { length memory.old.levels < rank_of (priority_of number) }
+    requires enough { 20 ≤ bytes }
+    ensures ok { OnOk result (level_begun memory.old number bytes ≡ Ok memory.new) }
+    ensures begun { OnOk result (IsHigher memory.old.levels memory.new.levels) }
+    ensures local { OnOk result (20 ≤ length (running_locals memory.new.levels)) }
+    ensures err { IfErr result (λ stop. level_begun memory.old number bytes ≡ Err stop) }
+    ensures same { OnErr result (memory.new ≡ memory.old) }
+{
+    match memory.begin_level(priority(number), ob(number), bytes) {
+        Ok(()) => {
+            memory.set_registers(Registers::clear());
+            Ok(())
+        }
+        Err(fault) => Err(stop_of(fault)),
     }
 }
 
@@ -172,15 +209,19 @@ pub fn start_byte(first_over: bool, cause: Cause) -> u8
         Cause::CpuStarted => 1,
         Cause::CycleBegan => if first_over { 3 } else { 1 },
         Cause::StatementFailed(error) => error,
+        Cause::AlarmCame(_) | Cause::BlockMissing(_) => 0,
     }
 }
 
-/// The info of the start information: of OB1 how long the cycle before took, in milliseconds.
+/// The info of the start information: of OB1 how long the cycle before took, in milliseconds; of the OB of an alarm that of the
+/// alarm; of OB85 the number of the block that is missing.
 pub fn start_value(last_length: u16, cause: Cause) -> u32
     ensures { result ≡ start_value last_length cause }
 {
     match cause {
         Cause::CycleBegan => u32::from(last_length),
+        Cause::AlarmCame(info) => info,
+        Cause::BlockMissing(number) => u32::from(number),
         Cause::CpuStarted | Cause::StatementFailed(_) => 0,
     }
 }
@@ -191,7 +232,10 @@ pub fn start_moment(at: u64, cause: Cause) -> u32
 {
     match cause {
         Cause::CycleBegan => 0,
-        Cause::CpuStarted | Cause::StatementFailed(_) => (at % (1 << 32)) as u32,
+        Cause::CpuStarted
+        | Cause::StatementFailed(_)
+        | Cause::AlarmCame(_)
+        | Cause::BlockMissing(_) => (at % (1 << 32)) as u32,
     }
 }
 

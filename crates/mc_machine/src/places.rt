@@ -39,6 +39,8 @@ pub enum Spot {
     AtInputs,
     /// At the end of a cycle.
     AtCycle,
+    /// Where it hands on what a job read or wrote, or that its bytes are not there.
+    AtReply(Option<u32>),
     /// Where it asks to stop.
     AtStop(StopCode),
     /// It has stopped.
@@ -56,12 +58,16 @@ pub enum Cause {
     CycleBegan,
     /// A statement failed, with this error.
     StatementFailed(u8),
+    /// An alarm came, with this value.
+    AlarmCame(u32),
+    /// The organisation block of this number is missing.
+    BlockMissing(u8),
 }
 
 /// What comes back, when a block ends, of the registers that were kept when it began.
 #[derive(Clone, Copy, Debug, Default)]
 pub enum Returns {
-    /// After an error OB: all of them.
+    /// After an error OB, and after the first block of a level: all of them.
     #[default]
     Whole,
     /// After a block that was called: the open groups and zones, whether the MCR is active, and which data blocks are opened.

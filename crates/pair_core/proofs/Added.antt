@@ -27,7 +27,7 @@ use Rattle.pair_core.proofs.Logs.{settled_shows}
 -- the entry that comes next has the CPU's request and a lawful answer
 pub record IsNext (p : Setup) (l : Log) (e : Entry) : Type 0 where
   pub asks : next_of (std p.program (answers_of l.entries)) ≡ Some e.request
-  pub answer : MayAnswer p (ledger p l.entries) e.request.ask e.answer
+  pub answer : MayAnswer p (ledger p l.entries) e.request e.answer
 
 next_with : (request : Request) (o : Option Answer) (e : Entry) → entry_with request o ≡ Some e → (request ≡ e.request) × (o ≡ Some e.answer)
 next_with request None e h = absurd cc
@@ -36,18 +36,18 @@ next_with request (Some answer) e h =
     let same : entry ≡ e = cc in
     (ap (λ (x : Entry). x.request) same, ap (λ (x : Entry). Some x.answer) same)
 
-next_for : (p : Setup) (l : Log) (o : Option Request) (e : Entry) → entry_for p l o ≡ Some e → (o ≡ Some e.request) × MayAnswer p (ledger p l.entries) e.request.ask e.answer
+next_for : (p : Setup) (l : Log) (o : Option Request) (e : Entry) → entry_for p l o ≡ Some e → (o ≡ Some e.request) × MayAnswer p (ledger p l.entries) e.request e.answer
 next_for p l None e h = absurd cc
 next_for p l (Some request) e h =
-    let parts = next_with request (answer_at p (ledger p l.entries) request.ask) e h in
-    (ap Some parts.0, ap (λ (r : Request). answer_at p (ledger p l.entries) r.ask) (sym parts.0) ∙ parts.1)
+    let parts = next_with request (answer_at p (ledger p l.entries) request) e h in
+    (ap Some parts.0, ap (λ (r : Request). answer_at p (ledger p l.entries) r) (sym parts.0) ∙ parts.1)
 
 pub is_next : (p : Setup) (l : Log) (e : Entry) → next_entry p l ≡ Some e → IsNext p l e
 is_next p l e h = let parts = next_for p l (next_of (std p.program (answers_of l.entries))) e h in record { asks = parts.0; answer = parts.1 }
 
 -- of which kind its answer is
 pub next_kind : (p : Setup) (l : Log) (e : Entry) → IsNext p l e → Kind p (ledger p l.entries) e.answer
-next_kind p l e next = answer_kind p (ledger p l.entries) e.request.ask e.answer next.answer
+next_kind p l e next = answer_kind p (ledger p l.entries) e.request e.answer next.answer
 
 -- what holds of the standing after it, when a side that is not cut adds it
 pub fresh_after : (p : Setup) (l : Log) (e : Entry) (s : Side) → IsNext p l e → runs (standing_in p l) (standing_in p l).master ≡ true → runs (standing_in p l) s ≡ true

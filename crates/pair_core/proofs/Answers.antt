@@ -1,4 +1,4 @@
--- The lawful answer: of which kind it is, that it fits, and when it stops the CPU.
+-- The lawful answer: of which kind it is, and when it stops the CPU.
 use Rattle.std.proofs.Common.{◌≡◌, ◌∙◌, ℕ, Bool, true, false, ◌&&◌, Option, Some, None, refl, ap, sym, subst, inl, inr}
 use Rattle.std.specs.Prelude.{if◌then◌else◌, ◌⊎◌}
 use Rattle.std.proofs.lemmas.Bool.{eq-eqb}
@@ -9,11 +9,13 @@ use Rattle.s7_events.specs.declared.entry.Ask.{Ask}
 use Rattle.s7_events.specs.declared.entry.Ask.TheVariants as asks
 use Rattle.s7_events.specs.declared.entry.StopCode.TheVariants as codes
 use Rattle.s7_events.specs.declared.entry.Request.{Request}
+use Rattle.s7_events.specs.declared.entry.Job.{Job}
 use Rattle.s7_events.specs.declared.entry.Answer.{Answer}
 use Rattle.s7_events.specs.declared.entry.Answer.TheVariants as answers
-use Rattle.mc_machine.specs.Meaning.{takes, is_dated, stops_cpu, request_of}
+use Rattle.mc_machine.specs.Meaning.{is_dated, stops_cpu}
 use Rattle.plant_script.specs.Plan.{Plan}
 use Rattle.plant_script.specs.InputImage.{input_image}
+use Rattle.alarm_queue.specs.Waiting.{first_above}
 use Rattle.pair_core.specs.declared.standing.Standing.{Standing}
 use Rattle.pair_core.specs.Setup.{Setup}
 use Rattle.pair_core.specs.Ledger.{Ledger}
@@ -22,34 +24,58 @@ use Rattle.pair_core.specs.Cuts.{is_cut}
 use Rattle.pair_core.specs.Stops.{stop_by}
 use Rattle.pair_core.specs.Losses.{loses_by}
 use Rattle.pair_core.specs.Monitor.{is_overdue}
-use Rattle.pair_core.specs.Lawful.{plain_answer, going_answer, falls, answer_at, MayAnswer}
+use Rattle.pair_core.specs.Lawful.{plain_answer, alarm_or, job_or, job_for, calm_answer, going_answer, falls, answer_at, MayAnswer}
 
 -- what holds of every lawful answer --------------------------------------------
 
-going_by : (P : Answer → Type 0) (plan : Plan) (k : ℕ) (ask : Ask) (answer : Answer) (overdue : Bool)
-    → (if overdue then Some (answers.CpuStop codes.Cycle) else plain_answer plan k ask) ≡ Some answer → P (answers.CpuStop codes.Cycle)
-    → ((a : Answer) → plain_answer plan k ask ≡ Some a → P a) → P answer
-going_by P plan k ask answer true is stop plain = let same : answers.CpuStop codes.Cycle ≡ answer = cc in subst P same stop
-going_by P plan k ask answer false is stop plain = plain answer is
+-- it holds of the alarm that goes first
+abbrev pub IfAlarm : (Answer → Type 0) → Ledger → Request → Type 0
+IfAlarm P g request = (x : ℕ × ℕ) → first_above request.prio g.waiting ≡ Some x → P (answers.Alarm x.0 x.1)
 
-going_any : (P : Answer → Type 0) (p : Setup) (g : Ledger) (ask : Ask) (answer : Answer) → going_answer p g ask ≡ Some answer → P (answers.CpuStop codes.Cycle)
-    → ((a : Answer) → plain_answer p.plan g.moment ask ≡ Some a → P a) → P answer
+-- of the job that is done first, where no alarm goes first
+abbrev pub IfJob : (Answer → Type 0) → Setup → Ledger → Request → Type 0
+IfJob P p g request = (j : Job) → first_above request.prio g.waiting ≡ None → job_for p g request.ask ≡ Some j → P (answers.Job j)
+
+-- of the plain answer, where no alarm goes first
+abbrev pub IfPlain : (Answer → Type 0) → Setup → Ledger → Request → Type 0
+IfPlain P p g request = (a : Answer) → first_above request.prio g.waiting ≡ None → plain_answer p.plan g.moment request.ask ≡ Some a → P a
+
+calm_by : (P : Answer → Type 0) (plan : Plan) (k : ℕ) (ask : Ask) (answer : Answer) (o : Option Job) → job_or o (plain_answer plan k ask) ≡ Some answer
+    → ((j : Job) → o ≡ Some j → P (answers.Job j)) → ((a : Answer) → plain_answer plan k ask ≡ Some a → P a) → P answer
+calm_by P plan k ask answer None is job plain = plain answer is
+calm_by P plan k ask answer (Some j) is job plain = let same : answers.Job j ≡ answer = cc in subst P same (job j refl)
+
+alarm_by : (P : Answer → Type 0) (p : Setup) (g : Ledger) (ask : Ask) (answer : Answer) (o : Option (ℕ × ℕ)) → alarm_or o (calm_answer p g ask) ≡ Some answer
+    → ((x : ℕ × ℕ) → o ≡ Some x → P (answers.Alarm x.0 x.1)) → ((j : Job) → o ≡ None → job_for p g ask ≡ Some j → P (answers.Job j))
+    → ((a : Answer) → o ≡ None → plain_answer p.plan g.moment ask ≡ Some a → P a) → P answer
+alarm_by P p g ask answer None is alarm job plain = calm_by P p.plan g.moment ask answer (job_for p g ask) is (λ j. job j refl) (λ a. plain a refl)
+alarm_by P p g ask answer (Some x) is alarm job plain = let same : answers.Alarm x.0 x.1 ≡ answer = cc in subst P same (alarm x refl)
+
+going_by : (P : Answer → Type 0) (p : Setup) (g : Ledger) (request : Request) (answer : Answer) (overdue : Bool)
+    → (if overdue then Some (answers.CpuStop codes.Cycle) else alarm_or (first_above request.prio g.waiting) (calm_answer p g request.ask)) ≡ Some answer
+    → P (answers.CpuStop codes.Cycle) → IfAlarm P g request → IfJob P p g request → IfPlain P p g request → P answer
+going_by P p g request answer true is stop alarm job plain = let same : answers.CpuStop codes.Cycle ≡ answer = cc in subst P same stop
+going_by P p g request answer false is stop alarm job plain = alarm_by P p g request.ask answer (first_above request.prio g.waiting) is alarm job plain
+
+going_any : (P : Answer → Type 0) (p : Setup) (g : Ledger) (request : Request) (answer : Answer) → going_answer p g request ≡ Some answer
+    → P (answers.CpuStop codes.Cycle) → IfAlarm P g request → IfJob P p g request → IfPlain P p g request → P answer
 unfolding going_answer
-going_any P p g ask answer is stop plain = going_by P p.plan g.moment ask answer (is_overdue p.program g.watch g.moment) is stop plain
+going_any P p g request answer is stop alarm job plain = going_by P p g request answer (is_overdue p.program g.watch g.moment) is stop alarm job plain
 
-any_by : (P : Answer → Type 0) (p : Setup) (g : Ledger) (ask : Ask) (answer : Answer) (a b : Bool)
-    → (if a then Some (answers.Lost A Failed) else (if b then Some (answers.Lost B Failed) else going_answer p g ask)) ≡ Some answer
-    → ((t : Side) → P (answers.Lost t Failed)) → P (answers.CpuStop codes.Cycle) → ((a : Answer) → plain_answer p.plan g.moment ask ≡ Some a → P a) → P answer
-any_by P p g ask answer true b is lost stop plain = let same : answers.Lost A Failed ≡ answer = cc in subst P same (lost A)
-any_by P p g ask answer false true is lost stop plain = let same : answers.Lost B Failed ≡ answer = cc in subst P same (lost B)
-any_by P p g ask answer false false is lost stop plain = going_any P p g ask answer is stop plain
+any_by : (P : Answer → Type 0) (p : Setup) (g : Ledger) (request : Request) (answer : Answer) (a b : Bool)
+    → (if a then Some (answers.Lost A Failed) else (if b then Some (answers.Lost B Failed) else going_answer p g request)) ≡ Some answer
+    → ((t : Side) → P (answers.Lost t Failed)) → P (answers.CpuStop codes.Cycle) → IfAlarm P g request → IfJob P p g request → IfPlain P p g request → P answer
+any_by P p g request answer true b is lost stop alarm job plain = let same : answers.Lost A Failed ≡ answer = cc in subst P same (lost A)
+any_by P p g request answer false true is lost stop alarm job plain = let same : answers.Lost B Failed ≡ answer = cc in subst P same (lost B)
+any_by P p g request answer false false is lost stop alarm job plain = going_any P p g request answer is stop alarm job plain
 
--- what holds of the loss of a side, of the stop of the CPU and of plain answers holds of every answer that may be given
-pub answer_any : (P : Answer → Type 0) (p : Setup) (g : Ledger) (ask : Ask) (answer : Answer) → MayAnswer p g ask answer
-    → ((t : Side) → P (answers.Lost t Failed)) → P (answers.CpuStop codes.Cycle) → ((a : Answer) → plain_answer p.plan g.moment ask ≡ Some a → P a) → P answer
-answer_any P p g ask answer is lost stop plain = any_by P p g ask answer (falls p g A) (falls p g B) is lost stop plain
+-- what holds of the loss of a side, of the stop of the CPU, of the first alarm, of the next job and of plain answers holds of every
+-- answer that may be given
+pub answer_any : (P : Answer → Type 0) (p : Setup) (g : Ledger) (request : Request) (answer : Answer) → MayAnswer p g request answer
+    → ((t : Side) → P (answers.Lost t Failed)) → P (answers.CpuStop codes.Cycle) → IfAlarm P g request → IfJob P p g request → IfPlain P p g request → P answer
+answer_any P p g request answer is lost stop alarm job plain = any_by P p g request answer (falls p g A) (falls p g B) is lost stop alarm job plain
 
-given : (P : Answer → Type 0) (x a : Answer) → Some x ≡ Some a → P x → P a
+pub given : (P : Answer → Type 0) (x a : Answer) → Some x ≡ Some a → P x → P a
 given P x a is h = let same : x ≡ a = cc in subst P same h
 
 -- a plain answer is Done, the input image, Go or the moment
@@ -100,9 +126,11 @@ plain_leaves plan k ask a is =
     (record { same = λ st. refl; keeps = λ s. refl; stays = refl }) (record { same = λ st. refl; keeps = λ s. refl; stays = refl })
     (record { same = λ st. refl; keeps = λ s. refl; stays = refl }) (record { same = λ st. refl; keeps = λ s. refl; stays = refl })
 
-going_leaves : (p : Setup) (g : Ledger) (ask : Ask) (answer : Answer) → going_answer p g ask ≡ Some answer → LeavesStanding answer
-going_leaves p g ask answer is =
-    going_any LeavesStanding p g ask answer is (record { same = λ st. refl; keeps = λ s. refl; stays = refl }) (plain_leaves p.plan g.moment ask)
+going_leaves : (p : Setup) (g : Ledger) (request : Request) (answer : Answer) → going_answer p g request ≡ Some answer → LeavesStanding answer
+going_leaves p g request answer is =
+    going_any LeavesStanding p g request answer is (record { same = λ st. refl; keeps = λ s. refl; stays = refl })
+    (λ x first. record { same = λ st. refl; keeps = λ s. refl; stays = refl }) (λ j none next. record { same = λ st. refl; keeps = λ s. refl; stays = refl })
+    (λ a none. plain_leaves p.plan g.moment request.ask a)
 
 and_left : (x y : Bool) → (x && y) ≡ true → x ≡ true
 and_left true y h = refl
@@ -123,18 +151,18 @@ loss_of p g t answer h is =
       cut = and_right (g.standing.running.a && g.standing.running.b) (is_cut p.plan t g.moment) h;
     }
 
-kind_by : (p : Setup) (g : Ledger) (ask : Ask) (answer : Answer) (fa fb : Bool) → falls p g A ≡ fa → falls p g B ≡ fb
-    → (if fa then Some (answers.Lost A Failed) else (if fb then Some (answers.Lost B Failed) else going_answer p g ask)) ≡ Some answer → Kind p g answer
-kind_by p g ask answer true fb ha hb is = inl (A, loss_of p g A answer ha is)
-kind_by p g ask answer false true ha hb is = inl (B, loss_of p g B answer hb is)
-kind_by p g ask answer false false ha hb is = inr (record {
-  leaves = going_leaves p g ask answer is;
+kind_by : (p : Setup) (g : Ledger) (request : Request) (answer : Answer) (fa fb : Bool) → falls p g A ≡ fa → falls p g B ≡ fb
+    → (if fa then Some (answers.Lost A Failed) else (if fb then Some (answers.Lost B Failed) else going_answer p g request)) ≡ Some answer → Kind p g answer
+kind_by p g request answer true fb ha hb is = inl (A, loss_of p g A answer ha is)
+kind_by p g request answer false true ha hb is = inl (B, loss_of p g B answer hb is)
+kind_by p g request answer false false ha hb is = inr (record {
+  leaves = going_leaves p g request answer is;
   uncut = λ s. elim s as (λ v. falls p g v ≡ false) [ A ↦ ha | B ↦ hb ];
 })
 
 -- a lawful answer is the loss of a side that is cut, of two that run, or it leaves the standing
-pub answer_kind : (p : Setup) (g : Ledger) (ask : Ask) (answer : Answer) → MayAnswer p g ask answer → Kind p g answer
-answer_kind p g ask answer is = kind_by p g ask answer (falls p g A) (falls p g B) refl refl is
+pub answer_kind : (p : Setup) (g : Ledger) (request : Request) (answer : Answer) → MayAnswer p g request answer → Kind p g answer
+answer_kind p g request answer is = kind_by p g request answer (falls p g A) (falls p g B) refl refl is
 
 -- no side comes back by it
 pub kind_stays : (p : Setup) (g : Ledger) (answer : Answer) → Kind p g answer → comes_back answer ≡ false
@@ -223,30 +251,13 @@ fresh_by p g answer s (inr c) master run uncut =
       master = rw same master;
     }
 
--- that it fits ----------------------------------------------------------------------
-
-plain_takes : (plan : Plan) (k : ℕ) (prio : ℕ) (ask : Ask) (answer : Answer) → plain_answer plan k ask ≡ Some answer → takes (request_of ask prio) answer ≡ true
-plain_takes plan k prio (asks.Outputs image) answer e = given (λ a. takes (request_of (asks.Outputs image) prio) a ≡ true) answers.Done answer e refl
-plain_takes plan k prio asks.Inputs answer e = given (λ a. takes (request_of asks.Inputs prio) a ≡ true) (answers.Image (input_image plan k)) answer e refl
-plain_takes plan k prio asks.Cycle answer e = given (λ a. takes (request_of asks.Cycle prio) a ≡ true) answers.Go answer e refl
-plain_takes plan k prio asks.Now answer e = given (λ a. takes (request_of asks.Now prio) a ≡ true) (answers.Now k) answer e refl
-plain_takes plan k prio asks.Tick answer e = given (λ a. takes (request_of asks.Tick prio) a ≡ true) answers.Done answer e refl
-plain_takes plan k prio asks.Retrigger answer e = given (λ a. takes (request_of asks.Retrigger prio) a ≡ true) answers.Done answer e refl
-plain_takes plan k prio (asks.Reply value) answer e = given (λ a. takes (request_of (asks.Reply value) prio) a ≡ true) answers.Done answer e refl
-plain_takes plan k prio (asks.Stop code) answer e = given (λ a. takes (request_of (asks.Stop code) prio) a ≡ true) answers.Done answer e refl
-plain_takes plan k prio (asks.ReadP addr width) answer e = absurd cc
-plain_takes plan k prio (asks.WriteP addr width value) answer e = absurd cc
-
--- a lawful answer is one that the CPU takes
-pub lawful_takes : (p : Setup) (g : Ledger) (request : Request) (answer : Answer) → MayAnswer p g request.ask answer → takes request answer ≡ true
-lawful_takes p g request answer may =
-    answer_any (λ a. takes request a ≡ true) p g request.ask answer may (λ t. refl) refl (plain_takes p.plan g.moment request.prio request.ask)
+-- its moment, and what stops the CPU --------------------------------------------------
 
 -- a lawful answer, if it is Now, is that of its own moment
-pub lawful_dated : (p : Setup) (g : Ledger) (ask : Ask) (answer : Answer) → MayAnswer p g ask answer → is_dated g.moment answer ≡ true
-lawful_dated p g ask answer may =
-    answer_any (λ a. is_dated g.moment a ≡ true) p g ask answer may (λ t. refl) refl
-    (λ a is. plain_any (λ x. is_dated g.moment x ≡ true) p.plan g.moment ask a is refl refl refl (eq-eqb g.moment g.moment refl))
+pub lawful_dated : (p : Setup) (g : Ledger) (request : Request) (answer : Answer) → MayAnswer p g request answer → is_dated g.moment answer ≡ true
+lawful_dated p g request answer may =
+    answer_any (λ a. is_dated g.moment a ≡ true) p g request answer may (λ t. refl) refl (λ x first. refl) (λ j none next. refl)
+    (λ a none is. plain_any (λ x. is_dated g.moment x ≡ true) p.plan g.moment request.ask a is refl refl refl (eq-eqb g.moment g.moment refl))
 
 -- the record and the CPU agree on what stops it
 pub not_stopping : (ask : Ask) (answer : Answer) → stop_by ask answer ≡ None → stops_cpu ask answer ≡ false

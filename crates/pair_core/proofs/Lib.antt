@@ -1,8 +1,12 @@
 pub mod Added
 pub mod Advances
+pub mod AnsweredOnce
 pub mod Answers
 pub mod Bounds
+pub mod Derived
+pub mod Fits
 pub mod Grows
+pub mod JobForms
 pub mod Keeps
 pub mod Lasts
 pub mod Logs
@@ -18,3 +22,4 @@ pub mod Snoc
 pub mod Stands
 pub mod Taking
 pub mod Visits
+pub mod Waiting

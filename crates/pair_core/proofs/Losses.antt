@@ -50,7 +50,7 @@ still_out st a s false l back h = in_after st a s l back ∙ h
 
 module _ (p : Setup) (s : Side) where
   stays : (g : Ledger) (e : Entry) → MayStand p g e → comes_back e.answer ≡ false
-  stays g e may = kind_stays p g e.answer (answer_kind p g e.request.ask e.answer may.answer)
+  stays g e may = kind_stays p g e.answer (answer_kind p g e.request e.answer may.answer)
 
   -- who is out stays out
   pub stays_out : (g : Ledger) (es : List Entry) → LawfulFrom p g es → runs g.standing s ≡ false → runs (ledger_from p g es).standing s ≡ false

@@ -46,7 +46,7 @@ going_at p l k h here = ap (λ n. stop_of (take n l.entries)) here ∙ (ap stop_
 
 -- the entry that comes next
 pub next_is : (p : Setup) (l : Log) (request : Request) (answer : Answer) → next_of (std p.program (answers_of l.entries)) ≡ Some request
-    → MayAnswer p (ledger p l.entries) request.ask answer → next_entry p l ≡ Some (record { request = request; answer = answer })
+    → MayAnswer p (ledger p l.entries) request answer → next_entry p l ≡ Some (record { request = request; answer = answer })
 next_is p l request answer asks is = ap (entry_for p l) asks ∙ ap (entry_with request) is
 
 pub take_all : (es : List Entry) (k : ℕ) → k ≡ length es → take k es ≡ es

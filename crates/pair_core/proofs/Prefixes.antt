@@ -2,7 +2,6 @@
 use Rattle.std.proofs.Common.{◌≡◌, ◌∙◌, Bool, List, [], ◌∷◌, ◌++◌, refl, ap, sym, inl, inr}
 use Rattle.std.specs.Prelude.{◌⊎◌, Some}
 use mathlib.Core.List.{IsPrefix}
-use Rattle.s7_events.specs.declared.entry.Ask.{Ask}
 use Rattle.s7_events.specs.declared.entry.Answer.{Answer}
 use Rattle.s7_events.specs.declared.entry.Request.{Request}
 use Rattle.s7_events.specs.declared.entry.Entry.{Entry}
@@ -16,8 +15,8 @@ use Rattle.pair_core.specs.Played.{requests_of, answers_of}
 use Rattle.pair_core.specs.OneRecord.{OneBegins}
 
 -- a request has one lawful answer
-one_answer : (p : Setup) (g : Ledger) (ask : Ask) (a b : Answer) → MayAnswer p g ask a → MayAnswer p g ask b → a ≡ b
-one_answer p g ask a b h g2 =
+one_answer : (p : Setup) (g : Ledger) (request : Request) (a b : Answer) → MayAnswer p g request a → MayAnswer p g request b → a ≡ b
+one_answer p g request a b h g2 =
     let same : Some a ≡ Some b = sym h ∙ g2 in cc
 
 pub same_entry : (x y : Entry) → x.request ≡ y.request → x.answer ≡ y.answer → x ≡ y
@@ -33,8 +32,7 @@ both_from p g before [] ys ax lx ay ly = inl (ys, refl)
 both_from p g before (x ∷ xs) [] ax lx ay ly = inr (x ∷ xs, refl)
 both_from p g before (x ∷ xs) (y ∷ ys) ax lx ay ly =
     let requests : x.request ≡ y.request = cc in
-    let asks : x.request.ask ≡ y.request.ask = ap (λ (r : Request). r.ask) requests in
-    let answers : x.answer ≡ y.answer = one_answer p g x.request.ask x.answer y.answer lx.0.answer (rw asks ly.0.answer) in
+    let answers : x.answer ≡ y.answer = one_answer p g x.request x.answer y.answer lx.0.answer (rw requests ly.0.answer) in
     let same : x ≡ y = same_entry x y requests answers in
     let rest = both_from p (after p g x) (before ++ x.answer ∷ []) xs ys (cc) lx.1 (rw answers (cc)) (rw same ly.1) in
     elim rest [ inl r ↦ inl (r.0, cc (r.1, same)) | inr r ↦ inr (r.0, cc (r.1, same)) ]

@@ -44,12 +44,12 @@ change_stays answer s h b = refl
 -- a lawful loss is one for failure
 change_lost : (p : Setup) (g : Ledger) (e : Entry) (s : Side) → MayStand p g e → loses_by e.answer s ≡ true → change_of e.answer s ≡ loses Failed
 change_lost p g e s may h =
-    let l = kind_lost p g e.answer s (answer_kind p g e.request.ask e.answer may.answer) h in
+    let l = kind_lost p g e.answer s (answer_kind p g e.request e.answer may.answer) h in
     ap (λ a. change_of a s) l.is ∙ ap (λ b. if b then loses Failed else keeps) (self_same s)
 
 -- and no side comes back
 change_keeps : (p : Setup) (g : Ledger) (e : Entry) (s : Side) → MayStand p g e → loses_by e.answer s ≡ false → change_of e.answer s ≡ keeps
-change_keeps p g e s may h = change_stays e.answer s h (kind_stays p g e.answer (answer_kind p g e.request.ask e.answer may.answer))
+change_keeps p g e s may h = change_stays e.answer s h (kind_stays p g e.answer (answer_kind p g e.request e.answer may.answer))
 
 -- the end of the one stretch of a side
 abbrev end_of : Option ℕ → StretchEnd

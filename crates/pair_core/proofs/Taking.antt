@@ -11,6 +11,7 @@ use Rattle.s7_events.specs.declared.entry.Entry.{Entry}
 use Rattle.s7_base.specs.Blocks.{Program}
 use Rattle.mc_machine.specs.Meaning.{std, next_of, asked_after, takes, is_dated, stops_cpu}
 use Rattle.mc_machine.specs.Stands.{Running, CanAsk, CanTake, CanGoOn, IsTaken, GoesOn, WaitsAt, Stands, CpuWaits}
+use Rattle.plant_script.specs.Plan.{IsPlan}
 use Rattle.subsystem.specs.Part.{Part, TookOne}
 use Rattle.pair_core.specs.Setup.{Setup}
 use Rattle.pair_core.specs.Ledger.{Ledger, first_ledger, after, ledger_from, ledger}
@@ -26,7 +27,9 @@ use Rattle.pair_core.specs.Good.{GoodLog}
 use Rattle.pair_core.proofs.Lasts.{stop_snoc}
 use Rattle.pair_core.proofs.OwnParts.{own_longer, life_longer}
 use Rattle.pair_core.proofs.Snoc.{stop_is, moment_is, answers_snoc}
-use Rattle.pair_core.proofs.Answers.{lawful_takes, lawful_dated, not_stopping}
+use Rattle.pair_core.proofs.Answers.{lawful_dated, not_stopping}
+use Rattle.pair_core.proofs.Fits.{lawful_takes}
+use Rattle.pair_core.proofs.Waiting.{waiting_fit}
 
 -- an entry in the middle of a lawful record may stand there
 lawful_mid : (p : Setup) (g : Ledger) (front : List Entry) (e : Entry) (rest : List Entry) → LawfulFrom p g (front ++ e ∷ rest) → MayStand p (ledger_from p g front) e
@@ -59,8 +62,8 @@ pub record IsMet (p : Setup) (l : Log) (k : ℕ) (e : Entry) : Type 0 where
   pub dated : is_dated k e.answer ≡ true
   pub asked : next_of (std p.program (answers_of (take k l.entries))) ≡ Some e.request
 
-pub met : (p : Setup) (l : Log) (k : ℕ) (e : Entry) → GoodLog p l → slice_get l.entries k ≡ Some e → IsMet p l k e
-met p l k e good here =
+pub met : (p : Setup) (l : Log) (k : ℕ) (e : Entry) → IsPlan p.plan → GoodLog p l → slice_get l.entries k ≡ Some e → IsMet p l k e
+met p l k e fine good here =
     let is : l.entries ≡ take k l.entries ++ e ∷ drop (k + 1) l.entries = split_at l.entries k e here in
     let front = take k l.entries in
     let rest = drop (k + 1) l.entries in
@@ -69,8 +72,8 @@ met p l k e good here =
     let here_k : g.moment ≡ k = moment_is p front ∙ length-take-le k l.entries (let within = slice_get_within l.entries k e here in omega arith) in
     record {
       going = sym (stop_is p front) ∙ may.going;
-      fits = lawful_takes p g e.request e.answer may.answer;
-      dated = subst (λ n. is_dated n e.answer ≡ true) here_k (lawful_dated p g e.request.ask e.answer may.answer);
+      fits = lawful_takes p g e.request e.answer fine (waiting_fit p front fine) may.answer;
+      dated = subst (λ n. is_dated n e.answer ≡ true) here_k (lawful_dated p g e.request e.answer may.answer);
       asked = asked_mid p.program [] front e rest (subst (λ es. requests_of es ≡ asked_after p.program [] (answers_of es)) is good.same.requests);
     }
 

@@ -1,6 +1,7 @@
 -- What the fields of a pair stand for.
-use Rattle.std.specs.Prelude.{◌≡◌, ℕ, ◌≤◌, ◌*◌, ◌<◌, true, length, None}
+use Rattle.std.specs.Prelude.{◌≡◌, ℕ, ◌+◌, ◌≤◌, ◌*◌, ◌<◌, true, List, length, None}
 use Rattle.s7_events.specs.declared.entry.Side.{Side}
+use Rattle.s7_events.specs.declared.entry.Entry.{Entry}
 use Rattle.plant_script.specs.Plan.{Plan, IsPlan}
 use Rattle.plant_script.specs.InputImage.{Image, IsImageOf}
 use Rattle.pair_core.specs.declared.turns.Act.{Act}
@@ -12,6 +13,9 @@ use Rattle.pair_core.specs.OwnParts.{own_place, had_life}
 use Rattle.pair_core.specs.CutsKept.{IsCutsAt}
 use Rattle.pair_core.specs.Setup.{Setup, made_for}
 use Rattle.pair_core.specs.Ledger.{ledger}
+use Rattle.pair_core.specs.Waits.{schedule}
+use Rattle.pair_core.specs.Jobs.{jobs_of, JobsKept}
+use Rattle.alarm_queue.specs.Waiting as alarms
 use Rattle.pair_core.specs.World.{Log, World, Game, part, standing_in, shown_past, is_open}
 
 abbrev pub setup_of : State → Setup
@@ -30,6 +34,18 @@ game_of s = record { setup = setup_of s; world = world_of s }
 abbrev pub IsImageBefore : Plan → ℕ → Image → Type 0
 IsImageBefore plan k image = (earlier : ℕ) × (earlier ≤ k) × IsImageOf plan earlier image
 
+-- the alarms that wait are those of the record, and OB72 may be added once for each entry that may still come
+pub record AreWaits (p : Setup) (es : List Entry) (kept : alarms.State) : Type 0 where
+  pub schedule : kept.schedule ≡ schedule p
+  pub waiting : kept.waiting ≡ (ledger p es).waiting
+  pub moment : kept.moment ≡ length es + 1
+  pub left : p.plan.end ≤ kept.redundancy_left + length es
+
+-- the jobs are those of the script, and as many were answered as the record says
+pub record AreJobs (p : Setup) (es : List Entry) (kept : JobsKept) : Type 0 where
+  pub list : kept.list ≡ jobs_of p.plan
+  pub answered : kept.answered ≡ (ledger p es).jobs
+
 -- what is derived is what the record, the showings and the script say
 pub record IsDerived (p : Setup) (l : Log) (derived : Derived) : Type 0 where
   pub standing : derived.standing ≡ standing_in p l
@@ -38,6 +54,8 @@ pub record IsDerived (p : Setup) (l : Log) (derived : Derived) : Type 0 where
   pub past : (side : Side) → of_side derived.past side ≡ shown_past l.shown side
   pub image : IsImageBefore p.plan (length l.entries) derived.image
   pub cuts : IsCutsAt p.plan (length l.entries) derived.cuts
+  pub waits : AreWaits p l.entries derived.waiting
+  pub jobs : AreJobs p l.entries derived.jobs
 
 -- that, and the capacity
 pub record IsKept (s : State) : Type 0 where

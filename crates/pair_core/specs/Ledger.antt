@@ -2,23 +2,36 @@
 use Rattle.std.specs.Prelude.{ℕ, ◌+◌, List, [], ◌∷◌, Option, None}
 use Rattle.s7_events.specs.declared.entry.Entry.{Entry}
 use Rattle.s7_events.specs.declared.entry.StopCode.{StopCode}
+use Rattle.alarm_queue.specs.declared.alarm.DueAlarm.{DueAlarm}
 use Rattle.pair_core.specs.declared.standing.Standing.{Standing}
 use Rattle.pair_core.specs.Setup.{Setup}
 use Rattle.pair_core.specs.Sides.{first_standing, after_answer}
 use Rattle.pair_core.specs.Stops.{stop_by}
 use Rattle.pair_core.specs.Monitor.{watch_by}
+use Rattle.pair_core.specs.Waits.{waiting_at_first, waits_after}
+use Rattle.pair_core.specs.Jobs.{jobs_by}
 
 -- Who runs after the entries of a record and which side is master; the code with which the last entry stops the CPU; from which
--- moment the cycle is monitored, if it is; and the moment, which is the number of the entries.
+-- moment the cycle is monitored, if it is; the alarms that wait, in the order in which they are answered; how many jobs were
+-- answered; and the moment, which is the number of the entries.
 pub record Ledger : Type 0 where
   pub standing : Standing
   pub stop : Option StopCode
   pub watch : Option ℕ
+  pub waiting : List DueAlarm
+  pub jobs : ℕ
   pub moment : ℕ
 
 -- before any entry
 abbrev pub first_ledger : Setup → Ledger
-first_ledger p = record { standing = first_standing p.solo; stop = None; watch = None; moment = 0 }
+first_ledger p = record {
+  standing = first_standing p.solo;
+  stop = None;
+  watch = None;
+  waiting = waiting_at_first p;
+  jobs = 0;
+  moment = 0;
+}
 
 -- what one more entry makes of it
 abbrev pub after : Setup → Ledger → Entry → Ledger
@@ -26,6 +39,8 @@ after p g e = record {
   standing = after_answer g.standing e.answer;
   stop = stop_by e.request.ask e.answer;
   watch = watch_by g.watch g.moment e.request.ask e.answer;
+  waiting = waits_after p g.moment (watch_by g.watch g.moment e.request.ask e.answer) e.answer g.waiting;
+  jobs = jobs_by e.answer g.jobs;
   moment = g.moment + 1;
 }
 

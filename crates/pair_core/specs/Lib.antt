@@ -1,8 +1,10 @@
+pub mod AnsweredOnce
 pub mod Cuts
 pub mod CutsKept
 pub mod Endings
 pub mod Finished
 pub mod Good
+pub mod Jobs
 pub mod Kept
 pub mod Lawful
 pub mod Ledger
@@ -22,4 +24,5 @@ pub mod Stops
 pub mod SystemStates
 pub mod Turns
 pub mod Views
+pub mod Waits
 pub mod World

@@ -1,5 +1,5 @@
 -- The monitoring of the cycle.
-use Rattle.std.specs.Prelude.{ℕ, ◌+◌, Bool, false, not, ◌&&◌, ◌||◌, nat_le, is_some, Option, Some, None}
+use Rattle.std.specs.Prelude.{ℕ, ◌+◌, ◌==◌, Bool, false, not, ◌&&◌, ◌||◌, nat_le, is_some, Option, Some, None}
 use Rattle.s7_base.specs.declared.blocks.CodeKind.TheVariants.{Ob}
 use Rattle.s7_events.specs.declared.entry.Ask.{Ask}
 use Rattle.s7_events.specs.declared.entry.Ask.TheVariants.{Outputs, Retrigger, Cycle}
@@ -18,6 +18,11 @@ watch_by before k ask answer = before
 -- how long a cycle may take, in milliseconds
 abbrev pub monitoring_time : ℕ
 monitoring_time = 150
+
+-- the monitoring time is over at moment k, and not before
+abbrev pub ends_monitoring : Option ℕ → ℕ → Bool
+ends_monitoring None k = false
+ends_monitoring (Some start) k = start + monitoring_time == k
 
 -- how long it may take where the block that answers a cycle that takes too long is loaded
 abbrev pub longest_time : ℕ

@@ -131,7 +131,7 @@ entry_with request (Some answer) = Some (record { request = request; answer = an
 
 abbrev pub entry_for : Setup → Log → Option Request → Option Entry
 entry_for p l None = None
-entry_for p l (Some request) = entry_with request (answer_at p (ledger p l.entries) request.ask)
+entry_for p l (Some request) = entry_with request (answer_at p (ledger p l.entries) request)
 
 -- the entry that comes next: what the standard CPU asks after the record's answers, with the lawful answer
 abbrev pub next_entry : Setup → Log → Option Entry

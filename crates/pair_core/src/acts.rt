@@ -3,7 +3,7 @@ ghost use Rattle.std.specs.Prelude.{◌≡◌, ◌+◌, ◌*◌, ◌<◌, ◌++�
 ghost use Rattle.mc_machine.specs.Stands.{IsAsked};
 ghost use Rattle.pair_core.specs.declared.turns.Act as Act;
 ghost use Rattle.pair_core.specs.Ledger.{ledger};
-ghost use Rattle.pair_core.specs.Lawful.{answer_at, going_answer};
+ghost use Rattle.pair_core.specs.Lawful.{job_for, answer_at, going_answer, MayAnswer};
 ghost use Rattle.pair_core.specs.World.{acted, next_entry, with_entry};
 ghost use Rattle.pair_core.specs.Sides.{of_side, with_side};
 ghost use Rattle.pair_core.specs.Kept.{setup_of, log_of, world_of, IsKept, CanAct};
@@ -15,17 +15,31 @@ use crate::own::{end_life, note_over, place_of, take_one};
 use crate::sides::other;
 use crate::state::{State, plain_answer};
 use crate::turns::Act;
+use crate::waits::advance;
 use crate::{Reason, Turn};
-use s7_base::{Answer, Ask, Entry, Loss, Side, StopCode};
+use s7_base::{Answer, Ask, Entry, Job, Loss, Request, Side, StopCode};
 use subsystem::Subsystem;
 
 impl State {
-    /// The answer where no side is lost: a cycle that takes too long stops the CPU; else the plain answer.
+    /// The next job that is due, where the next cycle may start.
+    fn job_for(&self, ask: &Ask) -> Option<Job>
+        requires { IsKept self.now }
+        ensures { result ≡ job_for (setup_of self.now) (ledger (setup_of self.now) self.now.log.record.entries) ask.now }
+    {
+        match ask {
+            Ask::Cycle => self.derived.jobs.next(self.len()),
+            _ => None,
+        }
+    }
+
+    /// The answer where no side is lost, by the first of these: a cycle that takes too long stops the CPU; the first alarm
+    /// that waits goes first, where its priority is above the request's; a job is done first where the next cycle may
+    /// start; the plain answer.
     #[tactic(auto, unfolding(crate::specs::Lawful::going_answer))]
-    fn going_answer(&mut self, ask: &Ask) -> Answer
+    fn going_answer(&mut self, request: &Request) -> Answer
         requires kept { IsKept self.old }
-        requires asked { IsAsked ask.now }
-        ensures answer { going_answer (setup_of self.old) (ledger (setup_of self.old) self.old.log.record.entries) ask.now ≡ Some result }
+        requires asked { IsAsked request.now.ask }
+        ensures answer { going_answer (setup_of self.old) (ledger (setup_of self.old) self.old.log.record.entries) request.now ≡ Some result }
         ensures world { world_of self.new ≡ world_of self.old }
         ensures setup { setup_of self.new ≡ setup_of self.old }
         ensures kept { IsKept self.new }
@@ -34,15 +48,26 @@ impl State {
         if is_overdue(&self.setup.program, self.derived.watch, moment) {
             return Answer::CpuStop(StopCode::Cycle);
         }
-        plain_answer(&self.setup.script, &mut self.derived.image, ask, moment)
+        if let Some((ob, info)) = self.derived.waiting.next_above(request.prio) {
+            return Answer::Alarm { ob, info };
+        }
+        if let Some(job) = self.job_for(&request.ask) {
+            return Answer::Job(job);
+        }
+        plain_answer(
+            &self.setup.script,
+            &mut self.derived.image,
+            &request.ask,
+            moment,
+        )
     }
 
-    /// The lawful answer to what is asked next: of two sides that run, the one that is cut is lost; and a cycle that
-    /// takes too long stops the CPU.
-    fn answer(&mut self, ask: &Ask) -> Answer
+    /// The lawful answer to what is asked next: of two sides that run, the one that is cut is lost; else that where no
+    /// side is lost.
+    fn answer(&mut self, request: &Request) -> Answer
         requires kept { IsKept self.old }
-        requires asked { IsAsked ask.now }
-        ensures answer { answer_at (setup_of self.old) (ledger (setup_of self.old) self.old.log.record.entries) ask.now ≡ Some result }
+        requires asked { IsAsked request.now.ask }
+        ensures answer { answer_at (setup_of self.old) (ledger (setup_of self.old) self.old.log.record.entries) request.now ≡ Some result }
         ensures world { world_of self.new ≡ world_of self.old }
         ensures setup { setup_of self.new ≡ setup_of self.old }
         ensures kept { IsKept self.new }
@@ -61,13 +86,14 @@ impl State {
                 };
             }
         }
-        self.going_answer(ask)
+        self.going_answer(request)
     }
 
-    /// Adds an entry to the record.
+    /// Adds an entry of a lawful answer to the record.
     fn add(&mut self, entry: Entry)
         requires kept { IsKept self.old }
         requires room { length self.old.log.record.entries < self.old.setup.script.end }
+        requires may { MayAnswer (setup_of self.old) (ledger (setup_of self.old) self.old.log.record.entries) entry.request entry.answer }
         ensures log { log_of self.new ≡ with_entry (log_of self.old) entry }
         ensures parts { self.new.parts ≡ self.old.parts }
         ensures setup { setup_of self.new ≡ setup_of self.old }
@@ -81,6 +107,14 @@ impl State {
             &entry.request.ask,
             &entry.answer,
         );
+        advance(
+            &mut self.derived.waiting,
+            &self.setup.program,
+            self.derived.watch,
+            moment,
+            &entry.answer,
+        );
+        self.derived.jobs.note(&entry.answer);
         self.log.record.append(entry);
         self.derived.cuts = self
             .derived
@@ -147,7 +181,7 @@ impl State {
     {
         let moment = self.len();
         let request = sub.ask();
-        let answer = self.answer(&request.ask);
+        let answer = self.answer(&request);
         sub.take(&answer, u64::from(moment));
         self.add(Entry { request, answer });
         take_one(&mut self.parts, side);

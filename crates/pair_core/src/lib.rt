@@ -5,6 +5,7 @@
 mod acts;
 mod cuts;
 mod endings;
+mod jobs;
 mod laws;
 mod monitor;
 mod own;
@@ -14,9 +15,10 @@ mod sides;
 mod standing;
 mod state;
 mod turns;
+mod waits;
 
 pub use endings::{Ended, SystemState};
-pub use laws::{asking_stays, begins, one_begins};
+pub use laws::{answered_once, asking_stays, begins, one_begins};
 pub use pair::Pair;
 pub use showings::Shown;
 pub use turns::{Reason, Turn};

@@ -1,6 +1,6 @@
 //! The monitoring of the cycle.
 ghost use Rattle.std.specs.Prelude.{◌≡◌};
-ghost use Rattle.pair_core.specs.Monitor.{watch_by, is_overdue};
+ghost use Rattle.pair_core.specs.Monitor.{watch_by, ends_monitoring, answers_overdue, is_overdue};
 
 use s7_base::{Answer, Ask, Blocks, CodeKind};
 
@@ -21,6 +21,23 @@ pub fn watch_by(before: Option<u32>, k: u32, ask: &Ask, answer: &Answer) -> Opti
     }
 }
 
+/// Whether the monitoring time is over at moment k, and not before.
+pub fn ends_monitoring(watch: Option<u32>, k: u64) -> bool
+    ensures { result ≡ ends_monitoring watch k }
+{
+    match watch {
+        Some(start) => u64::from(start) + MONITORING_TIME == k,
+        None => false,
+    }
+}
+
+/// Whether OB80 is loaded, which answers a cycle that takes too long.
+pub fn answers_overdue(program: &Blocks) -> bool
+    ensures { result ≡ answers_overdue program.now }
+{
+    program.code(CodeKind::Ob, 80).is_some()
+}
+
 /// Whether the cycle takes too long for the CPU of these blocks to go on at moment k: the longest time has passed, or the
 /// monitoring time where OB80 is not loaded.
 pub fn is_overdue(program: &Blocks, watch: Option<u32>, k: u32) -> bool
@@ -31,6 +48,5 @@ pub fn is_overdue(program: &Blocks, watch: Option<u32>, k: u32) -> bool
     };
     let start = u64::from(start);
     let k = u64::from(k);
-    start + LONGEST_TIME <= k
-        || (start + MONITORING_TIME <= k && program.code(CodeKind::Ob, 80).is_none())
+    start + LONGEST_TIME <= k || (start + MONITORING_TIME <= k && !answers_overdue(program))
 }

@@ -1,7 +1,6 @@
 //! The pair.
 ghost use Rattle.std.specs.Prelude.{ℕ, true, false, ◌≡◌, ◌+◌, ◌||◌, Some, None, is_some, length, IfOk};
 ghost use mathlib.Core.List.{IsPrefix};
-ghost use Rattle.plant_script.specs.Plan.{first_alarm_or_job};
 ghost use Rattle.pair_core.specs.Sides.{other_side, runs};
 ghost use Rattle.pair_core.specs.Turns.{is_over};
 ghost use Rattle.pair_core.specs.World.{part, step, ended, standing_in, first_world};
@@ -19,11 +18,13 @@ ghost use Rattle.subsystem.specs.Part.{Part};
 ghost use Rattle.pair_core.specs.Endings.{HasTail};
 
 use crate::cuts::Cuts;
+use crate::jobs::Jobs;
 use crate::own::Own;
 use crate::sides::Sides;
 use crate::standing::Standing;
 use crate::state::{Derived, Log, Setup, State};
 use crate::{Ended, Shown, SystemState, Turn};
+use alarm_queue::Waiting;
 use event_record::Record;
 use plant_script::{InputImage, Script};
 use s7_base::{Blocks, NoMemory, Side};
@@ -55,8 +56,6 @@ impl Pair {
     /// A pair that was not visited yet, for these blocks and this script, with both sides, or with side A alone.
     #[tactic(auto, using(crate::proofs::Visits::good_first))]
     pub fn new(alloc: Global, blocks: &Blocks, script: Script, solo: bool) -> Result<Pair, NoMemory>
-        // Alarms and jobs are not answered yet.
-        requires { first_alarm_or_job script ≡ None }
         ensures setup { IfOk result (λ pair. pair.setup ≡ record { program = blocks.now; plan = script; solo = solo }) }
         ensures world { IfOk result (λ pair. pair.world ≡ first_world solo) }
         ensures good { IfOk result (λ pair. Good pair.setup pair.world) }
@@ -64,9 +63,13 @@ impl Pair {
     {
         let end = script.end();
         let cuts = Cuts::new(&script);
+        let jobs = Jobs::new(alloc, &script)?;
+        let mut waiting = Waiting::new(alloc, &script, blocks)?;
+        waiting.due(0);
         let program = blocks.copy(alloc)?;
         let log = Record::with_room(alloc, end)?;
         let shown = Shown::with_room(alloc, 2 * end)?;
+        let image = InputImage::new();
         let first = Own::at_start(true);
         let second = Own::at_start(!solo);
         Ok(Pair {
@@ -89,8 +92,10 @@ impl Pair {
                     standing: Standing::first(solo),
                     watch: None,
                     past: Sides { a: 0, b: 0 },
-                    image: InputImage::new(),
+                    image,
                     cuts,
+                    waiting,
+                    jobs,
                 },
             },
         })

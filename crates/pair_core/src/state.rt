@@ -15,11 +15,13 @@ ghost use Rattle.pair_core.specs.Places.{IsAt};
 ghost use Rattle.pair_core.specs.Good.{GoodLog};
 
 use crate::cuts::Cuts;
+use crate::jobs::Jobs;
 use crate::own::{Own, place_of};
 use crate::sides::{Sides, is_same, other};
 use crate::standing::Standing;
 use crate::turns::Act;
 use crate::{Ended, Reason, Shown, Turn};
+use alarm_queue::Waiting;
 use event_record::Record;
 use plant_script::{InputImage, Script};
 use s7_base::{Answer, Ask, Blocks, Entry, Loss, Side, StopCode};
@@ -42,7 +44,8 @@ pub struct Log {
 }
 
 /// What follows from the record, the showings and the script: who runs, from which moment the cycle is monitored, one past
-/// the last entry that each side showed, the input image, and what the script made of the sides.
+/// the last entry that each side showed, the input image, what the script made of the sides, the alarms that wait, and the
+/// jobs that were not answered.
 #[derive(Debug, Drop)]
 pub struct Derived {
     pub standing: Standing,
@@ -50,6 +53,8 @@ pub struct Derived {
     pub past: Sides<u32>,
     pub image: InputImage,
     pub cuts: Cuts,
+    pub waiting: Waiting,
+    pub jobs: Jobs,
 }
 
 /// All that the pair keeps: what it is made for, what both sides share, what is kept of each side, and what follows from

@@ -1,10 +1,11 @@
 ghost use Rattle.std.specs.Prelude.{true, [], IfOk};
-ghost use Rattle.mc_machine.specs.Playable.{IsPlayable};
+ghost use Rattle.mc_machine.specs.Runnable.{IsRunnable};
 ghost use Rattle.pair_core.specs.World.{part};
 ghost use Rattle.pair_core.specs.OwnParts.{first_part};
 ghost use Rattle.pair_core.specs.Places.{IsAt};
 
 use event_record::Record;
+use mc_machine::is_runnable;
 use pair_core::*;
 use plant_script::read_script;
 use s7_base::{Answer, Ask, Blocks, CodeBlock, CodeKind, Entry, Loss, Request, Side};
@@ -44,7 +45,7 @@ fn play_pattern(pair: &mut Pair, pattern: &[Side], a: &mut Subsystem, b: &mut Su
 
 #[tactic(auto, using(pair_core::proofs::Stands::loaded_stands))]
 fn loaded(alloc: Global, blocks: &Blocks) -> Result<Subsystem, Fail>
-    requires { IsPlayable blocks.now }
+    requires { IsRunnable blocks.now }
     ensures { IfOk result (λ s. IsAt blocks.now (first_part true) [] s) }
 {
     let Ok(mut side) = Subsystem::new(alloc) else {
@@ -62,15 +63,15 @@ fn run(alloc: Global, script: &[u8], pattern: &[Side]) -> Result<(Record, Shown,
     let Some(blocks) = Blocks::of(vec![in alloc; main]?, Vec::new(alloc)) else {
         return Err("not well formed".into());
     };
+    if !is_runnable(&blocks) {
+        return Err("not supported".into());
+    }
     if script.len() > 1_048_576 {
         return Err("too long".into());
     }
     let Ok(script) = read_script(alloc, script) else {
         return Err("not a script".into());
     };
-    if script.first_alarm_or_job().is_some() {
-        return Err("not played".into());
-    }
     let Ok(mut pair) = Pair::new(alloc, &blocks, script, false) else {
         return Err("no memory".into());
     };

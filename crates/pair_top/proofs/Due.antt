@@ -2,7 +2,7 @@
 use Rattle.std.proofs.Common.{◌≡◌, Option, Some, Result, Ok, Err, sym, ap, subst, ◌∙◌, arith}
 use Rattle.pair_io.specs.Causes.{Rose}
 use Rattle.s7_base.specs.Blocks.{Program}
-use Rattle.mc_machine.specs.Playable.{IsPlayable}
+use Rattle.mc_machine.specs.Runnable.{IsRunnable}
 use Rattle.stl_lex.specs.declared.fault.LoadFault.{LoadFault}
 use Rattle.block_loader.specs.Load.{meaning_of}
 use Rattle.pair_top.specs.declared.faults.Fault.{Fault}
@@ -16,18 +16,18 @@ use Rattle.plant_script.specs.Plan.{Plan}
 use Rattle.plant_script.specs.declared.script_error.ScriptFault as scripts
 use Rattle.plant_script.specs.SecondPass.{script_of}
 use Rattle.pair_top.specs.Outside.{File, Written}
-use Rattle.pair_top.specs.Reading.{IsAccepted, IsPlanned, IsNoSource, IsNoScript, HasFailed, IsNotPlayed, played_script}
+use Rattle.pair_top.specs.Reading.{IsAccepted, IsPlanned, IsNoSource, IsNoScript, HasFailed, IsNotPlayed}
 use Rattle.pair_top.specs.Serving.{AreAccepted, IsCause, IsDue, IsDone, TellsTooMuch, TellsSource, TellsNoSource, TellsScript, TellsNoScript, GivesWhatIsDue}
 
 accepts_no_long : (file : File) (program : Program) → TellsTooMuch file → IsAccepted file.content program → ⊥
 accepts_no_long file program much accepted = long_unread file accepted.loaded.bytes much accepted.loaded.read
 
 -- a program that is played is no cause
-not_played : (due : LoadFault) (program : Program) → IsPlayable program → IsNotPlayed due (Ok program) → ⊥
+pub not_played : (due : LoadFault) (program : Program) → IsRunnable program → IsNotPlayed due (Ok program) → ⊥
 not_played due program played cause = cause.1 played
 
 -- one source has one fault
-same_cause : (due fault : LoadFault) (r : Result Program LoadFault) → IsNotPlayed due r → IsNotPlayed fault r → fault ≡ due
+pub same_cause : (due fault : LoadFault) (r : Result Program LoadFault) → IsNotPlayed due r → IsNotPlayed fault r → fault ≡ due
 same_cause due fault (Err first) a b = b ∙ sym a
 same_cause due fault (Ok program) a b = b.0 ∙ sym a.0
 
@@ -49,13 +49,13 @@ plans_no_long file plan much planned = long_unread file planned.bytes much plann
 plans_a_script : (file : File) (due : scripts.ScriptFault) (plan : Plan) → TellsNoScript file due → IsPlanned file.content plan → ⊥
 plans_a_script file due plan bad planned =
     let same = same_bytes file.content planned.bytes bad.bytes bad.tells.told planned.read in
-    one_meaning (played_script (script_of bad.bytes)) plan due (subst (λ l. played_script (script_of l) ≡ Ok plan) same planned.script) bad.cause
+    one_meaning (script_of bad.bytes) plan due (subst (λ l. script_of l ≡ Ok plan) same planned.script) bad.cause
 
 -- the fault that is told is the one that is due
 script_fault : (file : File) (due fault : scripts.ScriptFault) → TellsNoScript file due → IsNoScript file.content fault → fault ≡ due
 script_fault file due fault bad none =
     let same = same_bytes file.content none.bytes bad.bytes bad.tells.told none.read in
-    one_fault (played_script (script_of bad.bytes)) due fault bad.cause (subst (λ l. played_script (script_of l) ≡ Err fault) same none.cause)
+    one_fault (script_of bad.bytes) due fault bad.cause (subst (λ l. script_of l ≡ Err fault) same none.cause)
 
 -- a source is not refused as none
 source_stands : (file : File) (fault : LoadFault) → TellsSource file → IsNoSource file.content fault → ⊥
@@ -67,7 +67,7 @@ source_stands file fault tells bad =
 script_stands : (file : File) (fault : scripts.ScriptFault) → TellsScript file → IsNoScript file.content fault → ⊥
 script_stands file fault tells bad =
     let same = same_bytes file.content bad.bytes tells.bytes tells.tells.told bad.read in
-    one_meaning (played_script (script_of tells.bytes)) tells.plan fault tells.script (subst (λ l. played_script (script_of l) ≡ Err fault) same bad.cause)
+    one_meaning (script_of tells.bytes) tells.plan fault tells.script (subst (λ l. script_of l ≡ Err fault) same bad.cause)
 
 module _ (source script : File) where
   long_source_told : TellsTooMuch source → (error : PlayError) → IsCause source script error → IsDue 0 (TooLong 0) (Some (play_fault error))

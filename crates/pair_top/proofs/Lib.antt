@@ -1,6 +1,9 @@
 pub mod Contents
 pub mod Due
 pub mod Later
+pub mod Made
+pub mod Makes
+pub mod Moments
 pub mod OneFile
 pub mod Patterns
 pub mod Pieces

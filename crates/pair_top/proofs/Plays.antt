@@ -33,6 +33,11 @@ plays_all p w v xs so_far = sym (ap (λ l. play p w l) (sym (append-nil xs)) ∙
 pub ends_all : (p : Setup) (w v : World) (xs : List Side) → Plays p w xs true v → v ≡ play p w xs
 ends_all p w v xs plays = sym (ap (λ l. play p w l) (sym (append-nil xs)) ∙ plays [])
 
+-- whether or not the run has ended
+pub plays_through : (p : Setup) (w v : World) (xs : List Side) (over : Bool) → Plays p w xs over v → v ≡ play p w xs
+plays_through p w v xs true plays = ends_all p w v xs plays
+plays_through p w v xs false plays = plays_all p w v xs plays
+
 -- letters
 
 abbrev pub sides_left : List ℕ → List Side

@@ -3,6 +3,7 @@ pub mod Errors
 pub mod FaultText
 pub mod Fields
 pub mod Loading
+pub mod Making
 pub mod Orders
 pub mod Outside
 pub mod Pattern

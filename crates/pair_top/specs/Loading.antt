@@ -10,8 +10,9 @@ use Rattle.pair_top.specs.declared.faults.Fault.{Fault}
 use Rattle.pair_top.specs.declared.faults.Fault.TheVariants.{Usage, FileFault, TooLong, SourceFault, SinkFault}
 use Rattle.pair_top.specs.Outside.{File, Written, Outside}
 use Rattle.pair_top.specs.Reading.{IsSteady, HasFailed, IsLoaded, IsLoadRefusal}
-use Rattle.pair_top.specs.Orders.{Order, play, load, connect}
+use Rattle.pair_top.specs.Orders.{Order, play, load, connect, make}
 use Rattle.pair_top.specs.Connecting.{ConnectServed, ConnectsWhatIsDue}
+use Rattle.pair_top.specs.Making.{MakeServed, MakesWhatIsDue}
 use Rattle.pair_top.specs.Serving.{Account, IsQuiet, IsUnplayed, IsWriting, PlayServed, AreSteady, AreNew, IsDue, IsDone, Tells, TellsTooMuch, GivesWhatIsDue}
 
 -- a source was read whole, nothing was played, and the text of its blocks was written
@@ -31,7 +32,8 @@ abbrev pub IsSteadyUnless : Option Fault → File → Type 0
 IsSteadyUnless (Some (FileFault which)) source = Unit {0}
 IsSteadyUnless fault source = IsSteady source
 
--- What a call answers and leaves, by its command. A call that plays nothing leaves both subsystems as they were made.
+-- What a call answers and leaves, by its command. A call that plays nothing leaves both subsystems as they were made, and a call
+-- that plays what it made reads no file.
 abbrev pub Served : Option Order → Outside → Account → Part → Part → Option Fault → Type 0
 Served None outside account a b fault = (fault ≡ Some Usage) × IsQuiet outside.sink account × AreNew a b
 Served (Some (play manner source script)) outside account a b fault =
@@ -41,6 +43,8 @@ Served (Some (load source)) outside account a b fault =
     LoadServed (outside.file source) outside.sink account fault × IsSteadyUnless fault (outside.file source) × AreNew a b
 Served (Some (connect events)) outside account a b fault =
     ConnectServed (outside.file events) outside.sink account fault × IsSteadyUnless fault (outside.file events) × AreNew a b
+Served (Some (make moments)) outside account a b fault =
+    MakeServed moments outside.sink account a b fault × ((name : List ℕ) → IsSteady (outside.file name))
 
 -- completeness --
 
@@ -69,3 +73,4 @@ DueServed None outside fault = Unit {0}
 DueServed (Some (play manner source script)) outside fault = GivesWhatIsDue (outside.file source) (outside.file script) outside.sink fault
 DueServed (Some (load source)) outside fault = LoadsWhatIsDue (outside.file source) outside.sink fault
 DueServed (Some (connect events)) outside fault = ConnectsWhatIsDue (outside.file events) outside.sink fault
+DueServed (Some (make moments)) outside fault = MakesWhatIsDue moments outside.sink fault

@@ -4,7 +4,7 @@ use Rattle.pair_io.specs.Causes.{Rose}
 use Rattle.pair_io.specs.declared.files.FilesError.{FilesError}
 use Rattle.pair_io.specs.declared.files.FilesError.TheVariants as unread
 use Rattle.s7_base.specs.Blocks.{Program}
-use Rattle.mc_machine.specs.Playable.{IsPlayable}
+use Rattle.mc_machine.specs.Runnable.{IsRunnable}
 use Rattle.stl_lex.specs.declared.fault.LoadFault.{LoadFault}
 use Rattle.block_loader.specs.Load.{meaning_of}
 use Rattle.pair_top.specs.declared.faults.Fault.{Fault}
@@ -13,7 +13,7 @@ use Rattle.pair_top.specs.declared.errors.FileError.TheVariants as errors
 use Rattle.pair_top.specs.Errors.{source_fault}
 use Rattle.pair_top.specs.Outside.{File}
 use Rattle.plant_script.specs.declared.script_error.ScriptFault as scripts
-use Rattle.plant_script.specs.Plan.{Plan, first_alarm_or_job}
+use Rattle.plant_script.specs.Plan.{Plan}
 use Rattle.plant_script.specs.SecondPass.{script_of}
 
 -- the most bytes of a source or a script
@@ -52,7 +52,7 @@ pub record IsFaulty (content : Option (List ℕ)) (fault : LoadFault) : Type 0 w
 -- a file was read whole, and its source has this program, which is one that is played
 pub record IsAccepted (content : Option (List ℕ)) (program : Program) : Type 0 where
   pub loaded : IsLoaded content program
-  pub played : IsPlayable program
+  pub played : IsRunnable program
 
 -- the fault of a source without faults whose program isn't played
 abbrev pub source_not_built : LoadFault
@@ -61,7 +61,7 @@ source_not_built = record { kind = 99; line = 0 }
 -- why a source isn't played: its first fault, or that its program is none of those that are played
 abbrev pub IsNotPlayed : LoadFault → Result Program LoadFault → Type 0
 IsNotPlayed fault (Err first) = fault ≡ first
-IsNotPlayed fault (Ok program) = (fault ≡ source_not_built) × (IsPlayable program → ⊥)
+IsNotPlayed fault (Ok program) = (fault ≡ source_not_built) × (IsRunnable program → ⊥)
 
 -- a file was read whole, and its source isn't played
 pub record IsNoSource (content : Option (List ℕ)) (fault : LoadFault) : Type 0 where
@@ -69,30 +69,17 @@ pub record IsNoSource (content : Option (List ℕ)) (fault : LoadFault) : Type 0
   pub read : WasRead content bytes
   pub cause : IsNotPlayed fault (meaning_of bytes)
 
--- the fault of a script without faults that has an alarm or a job, which are not supported yet: at the first of their lines
-abbrev pub script_not_built : ℕ → scripts.ScriptFault
-script_not_built line = record { kind = 99; line = line }
-
-abbrev pub without_requests : Option ℕ → Plan → Result Plan scripts.ScriptFault
-without_requests None plan = Ok plan
-without_requests (Some line) plan = Err (script_not_built line)
-
--- why a script isn't played: its first fault, or that it has an alarm or a job
-abbrev pub played_script : Result Plan scripts.ScriptFault → Result Plan scripts.ScriptFault
-played_script (Err first) = Err first
-played_script (Ok plan) = without_requests (first_alarm_or_job plan) plan
-
--- a file was read whole, and is a script of this plan, which is one that is played
+-- a file was read whole, and is a script of this plan
 pub record IsPlanned (content : Option (List ℕ)) (plan : Plan) : Type 0 where
   pub bytes : List ℕ
   pub read : WasRead content bytes
-  pub script : played_script (script_of bytes) ≡ Ok plan
+  pub script : script_of bytes ≡ Ok plan
 
--- a file was read whole, and its script isn't played
+-- a file was read whole, and this is the first fault of its script
 pub record IsNoScript (content : Option (List ℕ)) (fault : scripts.ScriptFault) : Type 0 where
   pub bytes : List ℕ
   pub read : WasRead content bytes
-  pub cause : played_script (script_of bytes) ≡ Err fault
+  pub cause : script_of bytes ≡ Err fault
 
 -- why a file was not read
 abbrev pub IsUnread : File → FilesError → Type 0

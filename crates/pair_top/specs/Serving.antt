@@ -7,7 +7,7 @@ use Rattle.s7_events.specs.declared.entry.Side.{Side}
 use Rattle.s7_events.specs.declared.entry.Side.TheVariants.{A, B}
 use Rattle.s7_events.specs.declared.entry.Entry.{Entry}
 use Rattle.s7_base.specs.Blocks.{Program}
-use Rattle.mc_machine.specs.Playable.{IsPlayable}
+use Rattle.mc_machine.specs.Runnable.{IsRunnable}
 use Rattle.pair_core.specs.declared.endings.Ended.{Ended}
 use Rattle.pair_core.specs.declared.endings.Ended.TheVariants.{NotPlayed}
 use Rattle.pair_top.specs.declared.faults.Fault.{Fault}
@@ -22,7 +22,7 @@ use Rattle.pair_core.specs.Setup.{Setup}
 use Rattle.pair_core.specs.World.{World, first_world, play}
 use Rattle.pair_core.specs.Finished.{ended_by}
 use Rattle.pair_top.specs.Outside.{File, Written}
-use Rattle.pair_top.specs.Reading.{limit, IsSteady, HasFailed, IsRefused, CountsOnly, IsAccepted, IsPlanned, IsNoSource, IsNoScript, IsNotPlayed, played_script}
+use Rattle.pair_top.specs.Reading.{limit, IsSteady, HasFailed, IsRefused, CountsOnly, IsAccepted, IsPlanned, IsNoSource, IsNoScript, IsNotPlayed}
 use Rattle.stl_lex.specs.declared.fault.LoadFault.{LoadFault}
 use Rattle.block_loader.specs.Load.{meaning_of}
 use Rattle.plant_script.specs.declared.script_error.ScriptFault as scripts
@@ -201,7 +201,7 @@ pub record TellsSource (file : File) : Type 0 where
   pub tells : Tells file bytes
   pub program : Program
   pub meaning : meaning_of bytes ≡ Ok program
-  pub played : IsPlayable program
+  pub played : IsRunnable program
 
 -- a file tells a source that isn't played, with this fault
 pub record TellsNoSource (file : File) (due : LoadFault) : Type 0 where
@@ -214,13 +214,13 @@ pub record TellsScript (file : File) : Type 0 where
   pub bytes : List ℕ
   pub tells : Tells file bytes
   pub plan : Plan
-  pub script : played_script (script_of bytes) ≡ Ok plan
+  pub script : script_of bytes ≡ Ok plan
 
 -- a file tells a plant script that isn't played, with this fault
 pub record TellsNoScript (file : File) (due : scripts.ScriptFault) : Type 0 where
   pub bytes : List ℕ
   pub tells : Tells file bytes
-  pub cause : played_script (script_of bytes) ≡ Err due
+  pub cause : script_of bytes ≡ Err due
 
 -- Each refusal that is due comes, but for a file that fails before it, or want of memory; and where nothing is due and
 -- nothing outside fails, the command is done to its end, but for want of memory.

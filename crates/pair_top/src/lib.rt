@@ -5,6 +5,7 @@ mod errors;
 mod fault_text;
 mod faults;
 mod gates;
+mod making;
 mod pattern;
 mod play;
 mod reading;

@@ -50,7 +50,7 @@ fn are_letters(word: &[u8]) -> bool
 }
 
 /// The number that decimal digits write, 1 to 1,000,000.
-fn times_from(digits: &[u8]) -> Option<u32>
+pub fn times_from(digits: &[u8]) -> Option<u32>
     ensures times { result ≡ times_of digits.now }
     ensures few { IfSome result (λ times. times ≤ most_times) }
 {

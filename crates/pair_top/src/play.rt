@@ -12,7 +12,7 @@ ghost use Rattle.pair_core.specs.Endings.{HasTail};
 ghost use Rattle.pair_top.specs.Pattern.{sides_of, repeated, visits_of};
 ghost use Rattle.pair_top.specs.PatternView.{sides_in};
 ghost use Rattle.pair_top.specs.Orders.{is_alone, visits_for, mode_for};
-ghost use Rattle.pair_top.specs.WordsView.{manner_in, visits_in, ArePatterns};
+ghost use Rattle.pair_top.specs.WordsView.{manner_in, visits_in, AreReadable};
 ghost use Rattle.pair_top.specs.Playing.{Plays, IsBrought, AreAt, of_side};
 ghost use Rattle.pair_top.specs.Serving.{IsFinished, ComesToTail, account_of};
 
@@ -30,6 +30,8 @@ pub enum Visits<'a> {
     Alone,
     /// Both sides, by this pattern.
     Turns(&'a [u8]),
+    /// Both sides in turn, four visits of each for each of so many moments.
+    Made(u32),
 }
 
 impl Visits<'_> {
@@ -47,6 +49,7 @@ impl Visits<'_> {
         match self {
             Visits::Alone => Mode::Solo,
             Visits::Turns(_) => Mode::Pair,
+            Visits::Made(_) => Mode::TailOnly,
         }
     }
 }
@@ -156,6 +159,17 @@ fn play_alone(pair: &mut Pair, end: u32, a: &mut Subsystem, b: &mut Subsystem)
     unreachable!();
 }
 
+/// The visits of a made play of so many moments, up to the end of the run.
+fn play_made(pair: &mut Pair, moments: u32, a: &mut Subsystem, b: &mut Subsystem)
+    requires at { AreAt pair.old a.old b.old }
+    requires few { moments ≤ 100000 }
+    ensures setup { pair.new.setup ≡ pair.old.setup }
+    ensures at { AreAt pair.new a.new b.new }
+    ensures played { pair.new.world ≡ play pair.old.setup pair.old.world (repeated (4 * moments) (Side.A ∷ Side.B ∷ [])) }
+{
+    play_part(pair, 4 * moments, b"ab", a, b);
+}
+
 /// The visits of a play. Takes no memory.
 pub fn play_visits(
     pair: &mut Pair,
@@ -167,7 +181,7 @@ pub fn play_visits(
     requires at { AreAt pair.old a.old b.old }
     requires solo { pair.old.setup.solo ≡ is_alone (manner_in visits) }
     requires alone { pair.old.setup.solo ≡ true → IsAlone pair.old.setup pair.old.world 0 }
-    requires patterns { ArePatterns visits }
+    requires readable { AreReadable visits }
     requires end { end ≡ pair.old.setup.plan.end }
     requires few { end ≤ 200000 }
     ensures setup { pair.new.setup ≡ pair.old.setup }
@@ -178,6 +192,7 @@ pub fn play_visits(
     match visits {
         Visits::Alone => play_alone(pair, end, a, b),
         Visits::Turns(pattern) => play_pattern(pair, pattern, a, b),
+        Visits::Made(moments) => play_made(pair, moments, a, b),
     }
 }
 

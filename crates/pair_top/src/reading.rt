@@ -1,15 +1,14 @@
 //! Reads the files of a command.
-ghost use Rattle.plant_script.specs.Plan.{first_alarm_or_job};
-ghost use Rattle.std.specs.Prelude.{◌≡◌, ℕ, List, None, IfOk, IfErr, OnOk};
-ghost use Rattle.mc_machine.specs.Playable.{IsPlayable};
-ghost use Rattle.pair_top.specs.Reading.{WasRead, IsLoaded, IsFaulty, IsAccepted, IsPlanned, IsNoSource, IsNoScript, IsUnread, IsRefused, UnreadCounts, CountsOnly};
+ghost use Rattle.std.specs.Prelude.{◌≡◌, ℕ, List, None, Ok, IfSome, IsNone, IfOk, IfErr, OnOk};
+ghost use Rattle.mc_machine.specs.Runnable.{IsRunnable};
+ghost use Rattle.pair_top.specs.Reading.{WasRead, IsLoaded, IsFaulty, IsAccepted, IsPlanned, IsNoSource, IsNotPlayed, IsNoScript, IsUnread, IsRefused, UnreadCounts, CountsOnly};
 ghost use Rattle.pair_top.specs.Outside.{file_in};
 ghost use Rattle.pair_top.specs.Connecting.{IsConnected, HasBadEvents};
 
 use crate::errors::FileError;
 use block_loader::{LoadError, load};
 use ft_connection::{ConnError, play};
-use mc_machine::is_playable;
+use mc_machine::is_runnable;
 use pair_io::{Files, FilesError};
 use plant_script::{Script, ScriptError, ScriptFault, read_script};
 use s7_base::Blocks;
@@ -19,7 +18,7 @@ use stl_lex::LoadFault;
 /// The most bytes of a source or a script.
 pub const LIMIT: u64 = 1_048_576;
 
-/// The kind of the fault of a source without faults whose program is not played.
+/// The kind of the fault of a source without faults that is not played.
 const NOT_BUILT: u8 = 99;
 
 /// Returns the bytes of the file of this name.
@@ -57,6 +56,20 @@ pub fn load_source<F: Files>(
     }
 }
 
+/// Returns why the blocks of a source without faults are not played. None where they are.
+pub fn fault_of_blocks(blocks: &Blocks) -> Option<LoadFault>
+    ensures none { IsNone result → IsRunnable blocks.now }
+    ensures some { IfSome result (λ fault. IsNotPlayed fault (Ok blocks.now)) }
+{
+    if !is_runnable(blocks) {
+        return Some(LoadFault {
+            kind: NOT_BUILT,
+            line: 0,
+        });
+    }
+    None
+}
+
 /// Returns the blocks of the source of this name, which are played.
 pub fn read_blocks<F: Files>(
     alloc: Global,
@@ -64,7 +77,7 @@ pub fn read_blocks<F: Files>(
     name: &[u8],
 ) -> Result<Blocks, FileError<LoadFault>>
     ensures read { IfOk result (IsAccepted (F.content files.old name.now)) }
-    ensures playable { IfOk result IsPlayable }
+    ensures runnable { IfOk result IsRunnable }
     ensures refused { IfErr result (IsRefused IsNoSource (file_in F.Files files.old files.new name.now)) }
     ensures stays { (other : List ℕ) → F.content files.new other ≡ F.content files.old other }
     ensures promises { (other : List ℕ) → F.never_fails files.old other → F.never_fails files.new other }
@@ -72,23 +85,19 @@ pub fn read_blocks<F: Files>(
     ensures steady { IfErr result (λ error. (other : List ℕ) → CountsOnly error (file_in F.Files files.old files.new other)) }
 {
     let blocks = load_source(alloc, files, name)?;
-    if !is_playable(&blocks) {
-        return Err(FileError::Content(LoadFault {
-            kind: NOT_BUILT,
-            line: 0,
-        }));
+    if let Some(fault) = fault_of_blocks(&blocks) {
+        return Err(FileError::Content(fault));
     }
     Ok(blocks)
 }
 
-/// Returns the plant script of this name, which has no alarm and no job.
+/// Returns the plant script of this name.
 pub fn read_plant<F: Files>(
     alloc: Global,
     files: &mut F,
     name: &[u8],
 ) -> Result<Script, FileError<ScriptFault>>
     ensures read { IfOk result (IsPlanned (F.content files.old name.now)) }
-    ensures plain { IfOk result (λ script. first_alarm_or_job script ≡ None) }
     ensures refused { IfErr result (IsRefused IsNoScript (file_in F.Files files.old files.new name.now)) }
     ensures stays { (other : List ℕ) → F.content files.new other ≡ F.content files.old other }
     ensures promises { (other : List ℕ) → F.never_fails files.old other → F.never_fails files.new other }
@@ -96,16 +105,11 @@ pub fn read_plant<F: Files>(
     ensures steady { IfErr result (λ error. (other : List ℕ) → CountsOnly error (file_in F.Files files.old files.new other)) }
 {
     let bytes = read_file(alloc, files, name).map_err(FileError::Unread)?;
-    let script = match read_script(alloc, &bytes) {
-        Ok(script) => script,
-        Err(ScriptError::Fault(fault)) => return Err(FileError::Content(fault)),
-        Err(ScriptError::NoMemory) => return Err(FileError::NoMemory),
-    };
-    if let Some(line) = script.first_alarm_or_job() {
-        let kind = NOT_BUILT;
-        return Err(FileError::Content(ScriptFault { kind, line }));
+    match read_script(alloc, &bytes) {
+        Ok(script) => Ok(script),
+        Err(ScriptError::Fault(fault)) => Err(FileError::Content(fault)),
+        Err(ScriptError::NoMemory) => Err(FileError::NoMemory),
     }
-    Ok(script)
 }
 
 /// Returns what playing the events of the file of this name gives.

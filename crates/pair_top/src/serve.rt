@@ -1,7 +1,6 @@
 //! The top call.
 ghost use Rattle.std.specs.Prelude.{◌≡◌, ◌≤◌, ◌↔◌, ℕ, List, true, None, Some, IsNone, IfOk, IfErr, OnOk, OnErr};
-ghost use Rattle.mc_machine.specs.Playable.{IsPlayable};
-ghost use Rattle.plant_script.specs.Plan.{first_alarm_or_job};
+ghost use Rattle.mc_machine.specs.Runnable.{IsRunnable};
 ghost use Rattle.subsystem.specs.Part.{IsNew, IsOpen};
 ghost use Rattle.trace_text.specs.declared.mode.Mode.{Mode};
 ghost use Rattle.pair_core.specs.World.{first_world, play};
@@ -12,17 +11,19 @@ ghost use Rattle.trace_text.specs.Text.{text};
 ghost use Rattle.trace_printer.specs.LoadText.{load_text};
 ghost use Rattle.pair_top.specs.Outside.{file_in, sink_in, outside_of};
 ghost use Rattle.pair_top.specs.Reading.{IsAccepted, IsPlanned};
-ghost use Rattle.pair_top.specs.Orders.{is_alone, visits_for};
+ghost use Rattle.pair_top.specs.Orders.{made, is_alone, visits_for, AreMoments};
 ghost use Rattle.pair_top.specs.Playing.{AreAt, of_side};
 ghost use Rattle.pair_top.specs.Serving.{AreUnused, IsCause, PlayCounts, AreSteady, IsFinished, ComesToTail, IsWriting, IsOutcome, PlayServed, IsUnplayed, setup_of, account_of, GivesWhatIsDue};
 ghost use Rattle.pair_top.specs.Loading.{LoadServed, IsSteadyUnless, LoadsWhatIsDue, Served, DueServed};
 ghost use Rattle.pair_top.specs.Connecting.{ConnectServed, ConnectsWhatIsDue};
+ghost use Rattle.pair_top.specs.Making.{MakeServed, MakesWhatIsDue};
 ghost use Rattle.pair_top.specs.Statuses.{status_of};
 ghost use Rattle.pair_top.specs.Words.{command_of, words_of};
-ghost use Rattle.pair_top.specs.WordsView.{order_of, manner_in, IsReadable, ArePatterns};
+ghost use Rattle.pair_top.specs.WordsView.{order_of, manner_in, IsReadable, AreReadable};
 
 use crate::errors::{PlayError, play_fault, script_fault, source_fault};
 use crate::fault_text::exit_status;
+use crate::making::make_both;
 use crate::play::{Played, Visits, finish, play_visits};
 use crate::reading::{load_source, play_connection, read_blocks, read_plant};
 use crate::words::{Command, command_from};
@@ -48,8 +49,7 @@ fn read_both<F: Files>(
     files: &mut F,
 ) -> Result<(Blocks, Script), PlayError>
     ensures source { IfOk result (λ both. IsAccepted (F.content files.old source.now) both.0) }
-    ensures playable { IfOk result (λ both. IsPlayable both.0) }
-    ensures plain { IfOk result (λ both. first_alarm_or_job both.1 ≡ None) }
+    ensures runnable { IfOk result (λ both. IsRunnable both.0) }
     ensures script { IfOk result (λ both. IsPlanned (F.content files.old script.now) both.1) }
     ensures refused { let file = file_in F.Files files.old files.new in IfErr result (IsCause (file source.now) (file script.now)) }
     ensures counts { OnOk result ((other : List ℕ) → F.faults files.new other ≡ F.faults files.old other) }
@@ -74,8 +74,7 @@ fn open(
 ) -> Result<Pair, NoMemory>
     requires a { IsNew a.old }
     requires b { IsNew b.old }
-    requires playable { IsPlayable blocks.now }
-    requires plain { first_alarm_or_job script ≡ None }
+    requires runnable { IsRunnable blocks.now }
     ensures setup { IfOk result (λ pair. pair.setup ≡ setup_of blocks.now script solo) }
     ensures world { IfOk result (λ pair. pair.world ≡ first_world solo) }
     ensures alone { solo ≡ true → IfOk result (λ pair. IsAlone pair.setup pair.world 0) }
@@ -102,7 +101,7 @@ fn play_out(
     requires at { AreAt pair a.old b.old }
     requires solo { pair.setup.solo ≡ is_alone (manner_in visits) }
     requires alone { pair.setup.solo ≡ true → IsAlone pair.setup pair.world 0 }
-    requires patterns { ArePatterns visits }
+    requires readable { AreReadable visits }
     requires end { end ≡ pair.setup.plan.end }
     requires few { end ≤ 200000 }
     ensures finished { IsFinished pair.setup (play pair.setup pair.world (visits_for (manner_in visits.entry) pair.setup.plan))
@@ -152,9 +151,8 @@ fn play_and_write<K: Sink>(
 ) -> Outcome
     requires a { IsNew a.old }
     requires b { IsNew b.old }
-    requires playable { IsPlayable blocks.now }
-    requires plain { first_alarm_or_job script ≡ None }
-    requires patterns { ArePatterns visits }
+    requires runnable { IsRunnable blocks.now }
+    requires readable { AreReadable visits }
     ensures status { result.status ≡ status_of result.fault }
     ensures played { IsOutcome (manner_in visits.entry) blocks.now script
         (sink_in K.Sink sink.old sink.new)
@@ -185,7 +183,7 @@ fn serve_play<F: Files, K: Sink>(
 ) -> Outcome
     requires a { IsNew a.old }
     requires b { IsNew b.old }
-    requires patterns { ArePatterns visits }
+    requires readable { AreReadable visits }
     ensures status { result.status ≡ status_of result.fault }
     ensures served { let outside = outside_of F.Files files.old files.new K.Sink sink.old sink.new in
         PlayServed (manner_in visits.entry) (outside.file source.now) (outside.file script.now) outside.sink
@@ -272,6 +270,30 @@ fn serve_connect<F: Files, K: Sink>(
     }
 }
 
+/// The command that plays the source and the script that are made for so many moments.
+fn serve_make<K: Sink>(
+    alloc: Global,
+    moments: u32,
+    sink: &mut K,
+    a: &mut Subsystem,
+    b: &mut Subsystem,
+) -> Outcome
+    requires a { IsNew a.old }
+    requires b { IsNew b.old }
+    requires moments { AreMoments moments }
+    ensures status { result.status ≡ status_of result.fault }
+    ensures served { MakeServed moments (sink_in K.Sink sink.old sink.new)
+        (account_of result.entries.entries result.shown.list result.ended) a.new b.new result.fault }
+    ensures words { result.fault ≡ Some Fault.Usage → ⊥ }
+    ensures due { MakesWhatIsDue moments (sink_in K.Sink sink.old sink.new) result.fault }
+{
+    let (blocks, script) = match make_both(alloc, moments) {
+        Ok(both) => both,
+        Err(fault) => return Outcome::refused(alloc, fault),
+    };
+    play_and_write(alloc, &blocks, script, Visits::Made(moments), sink, a, b)
+}
+
 /// Does what a command says.
 fn serve_command<F: Files, K: Sink>(
     alloc: Global,
@@ -312,12 +334,13 @@ fn serve_command<F: Files, K: Sink>(
             a,
             b,
         ),
+        Command::Make { moments } => serve_make(alloc, moments, sink, a, b),
     }
 }
 
 /// Does what the words say, on the caller's thread: `load SOURCE` tells the blocks of a source, `connect EVENTS` plays the events
-/// of a connection, `solo SOURCE SCRIPT` plays side A alone, and `turns SOURCE SCRIPT PATTERN` plays both sides by the letters of
-/// the pattern.
+/// of a connection, `solo SOURCE SCRIPT` plays side A alone, `turns SOURCE SCRIPT PATTERN` plays both sides by the letters of
+/// the pattern, and `make N` plays both sides in turn by a source and a script that it makes for N moments.
 ///
 /// `a` and `b` are as `Subsystem::new` made them. Waits for nobody, and always returns.
 pub fn serve_alone<F: Files, K: Sink>(

@@ -1,10 +1,17 @@
 //! The command words.
 ghost use Rattle.std.specs.Prelude.{◌≡◌, IfSome};
 ghost use Rattle.std.specs.Option.{option_map};
-ghost use Rattle.pair_top.specs.Words.{command_of, words_of};
+ghost use Rattle.pair_top.specs.Orders.{AreMoments};
+ghost use Rattle.pair_top.specs.Words.{moments_of, command_of, words_of};
 ghost use Rattle.pair_top.specs.WordsView.{order_of, IsReadable};
 
-use crate::pattern::is_pattern;
+use crate::pattern::{is_pattern, times_from};
+
+/// The fewest moments of a made play.
+const FEWEST_MOMENTS: u32 = 1_000;
+
+/// The most moments of a made play.
+const MOST_MOMENTS: u32 = 100_000;
 
 /// What the words ask for, with the names of the files.
 #[derive(Clone, Copy)]
@@ -28,6 +35,23 @@ pub enum Command<'a> {
         script: &'a [u8],
         pattern: &'a [u8],
     },
+    /// To play both sides in turn by the source and the script that are made for a number of moments, 1,000 to 100,000.
+    Make {
+        moments: u32,
+    },
+}
+
+/// The number of moments that decimal digits write, 1,000 to 100,000.
+#[tactic(auto, using(crate::proofs::Moments::no_times, crate::proofs::Moments::are_moments, crate::proofs::Moments::too_few, crate::proofs::Moments::too_many))]
+fn moments_from(digits: &[u8]) -> Option<u32>
+    ensures moments { result ≡ moments_of digits.now }
+    ensures within { IfSome result AreMoments }
+{
+    let moments = times_from(digits)?;
+    if moments < FEWEST_MOMENTS || moments > MOST_MOMENTS {
+        return None;
+    }
+    Some(moments)
 }
 
 /// The command that the words are. None exactly where they are no command.
@@ -42,6 +66,10 @@ pub fn command_from(words: &[Vec<u8>]) -> Option<Command<'_>>
         [word, events] if word.as_slice() == b"connect".as_slice() => Some(Command::Connect {
             events: events.as_slice(),
         }),
+        [word, digits] if word.as_slice() == b"make".as_slice() => {
+            let moments = moments_from(digits.as_slice())?;
+            Some(Command::Make { moments })
+        }
         [word, source, script] if word.as_slice() == b"solo".as_slice() => Some(Command::Solo {
             source: source.as_slice(),
             script: script.as_slice(),

@@ -1,5 +1,6 @@
 pub mod Counts
 pub mod Entering
+pub mod JobBytes
 pub mod Operands
 pub mod Places
 pub mod SupportedMeans

@@ -4,6 +4,7 @@ pub mod CounterEffect
 pub mod DataEffect
 pub mod Decoding
 pub mod Effect
+pub mod JobEffect
 pub mod JumpEffect
 pub mod Levels
 pub mod MoveEffect

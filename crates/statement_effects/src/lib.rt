@@ -10,6 +10,7 @@ mod decoded;
 mod decoding;
 mod execute;
 mod instruction;
+mod jobs;
 mod jumps;
 mod laws;
 mod levels;

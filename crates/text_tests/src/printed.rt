@@ -1,12 +1,11 @@
 //! The text of a run. Its CPU is played to the stop at which its tail is shown.
-ghost use Rattle.std.specs.Prelude.{◌≡◌, ◌∷◌, [], Some, None, IfOk, IsTrue, codes};
+ghost use Rattle.std.specs.Prelude.{◌≡◌, ◌∷◌, [], Some, None, IfOk, codes};
 ghost use Rattle.s7_events.specs.declared.diagnostics.DiagCode.TheVariants as diag;
-ghost use Rattle.mc_machine.specs.Meaning.{is_built};
 ghost use Rattle.subsystem.specs.Part.{IsOpen};
 ghost use Rattle.trace_text.specs.Tail.{note_lines, block_lines};
 
 use event_record::Record;
-use mc_machine::is_playable;
+use mc_machine::is_runnable;
 use pair_core::{Ended, Shown};
 use pair_io::MemSink;
 use s7_base::{
@@ -112,7 +111,6 @@ fn main_program(alloc: Global) -> Result<Blocks, Fail> {
 /// Gives a side in its first life an answer that fits.
 fn give(rt: &impl Abort, side: &mut Subsystem, answer: Answer, moment: u64) -> Result<(), Fail>
     requires open { IsOpen side.old }
-    requires built { IsTrue (is_built answer) }
     ensures { IfOk result (λ _. IsOpen side.new) }
 {
     assert!(rt; side.can_ask());
@@ -133,7 +131,7 @@ fn loaded(alloc: Global, blocks: &Blocks) -> Result<Subsystem, Fail>
     let Ok(mut side) = Subsystem::new(alloc) else {
         return Err("no memory".into());
     };
-    if !is_playable(blocks) {
+    if !is_runnable(blocks) {
         return Err("not played".into());
     }
     if side.load(alloc, blocks).is_err() {

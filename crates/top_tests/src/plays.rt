@@ -343,6 +343,52 @@ fn patterns_are_read(rt: HostRuntime) -> Result<(), Fail> {
     Ok(())
 }
 
+/// Numbers of moments of `make`, and arguments that are none.
+const MOMENTS: [(&[u8], bool); 14] = [
+    (b"1000", true),
+    (b"1001", true),
+    (b"100000", true),
+    (b"0001000", true),
+    (b"00000000000000000000000000000001000", true),
+    (b"", false),
+    (b"0", false),
+    (b"999", false),
+    (b"100001", false),
+    (b"4294968296", false),
+    (b"+1000", false),
+    (b"1000 ", false),
+    (b"1,000", false),
+    (b"0x1000", false),
+];
+
+#[test]
+fn numbers_of_moments_are_read(rt: HostRuntime) -> Result<(), Fail> {
+    let alloc = rt.alloc();
+    let mut files = files_of(alloc, SOURCE, SCRIPT, None)?;
+    for (word, is_one) in MOMENTS {
+        let mut sink = MemSink::new(alloc, 1000, Vec::new(alloc))?;
+        let left = served(alloc, &[b"make", word], &mut files, &mut sink)?;
+        assert_eq!(rt; left.outcome.fault == Some(Fault::Usage), !is_one);
+    }
+    Ok(())
+}
+
+/// 333 cycles, no alarm, and the loss of side B half way.
+#[test]
+fn a_made_play_writes_its_tail(rt: HostRuntime) -> Result<(), Fail> {
+    let alloc = rt.alloc();
+    let mut files = files_of(alloc, SOURCE, SCRIPT, None)?;
+    let mut sink = MemSink::new(alloc, 1000, Vec::new(alloc))?;
+    let left = served(alloc, &[b"make", b"1000"], &mut files, &mut sink)?;
+    assert_eq!(rt; left.outcome.fault, None);
+    assert_eq!(rt; left.outcome.ended, Ended::End);
+    assert_eq!(rt; left.outcome.entries.len(), 1000);
+    let text: &[u8] =
+        b"DIAG 2\n0 START\n500 LOST B FAILED\nI 0:09\nQ 0:09\nM 0:01,1:4D\nEND 1000\n";
+    assert_eq!(rt; sink.written(), text);
+    Ok(())
+}
+
 /// Sources, scripts and texts of plays in which side A is lost in OB1: side B asks again for what A was denied.
 const FAILOVERS: [(&[u8], &[u8], &[u8]); 2] = [
     // The timer is started at 2, and runs out at 12. Both sides know it.
@@ -407,6 +453,9 @@ fn blocks_are_told(rt: HostRuntime) -> Result<(), Fail> {
     Ok(())
 }
 
+/// A program that reads a peripheral byte, which is not supported yet.
+const PERIPHERAL: &[u8] = b"ORGANIZATION_BLOCK OB 1\nBEGIN\nL PIB 0;\nEND_ORGANIZATION_BLOCK\n";
+
 #[test]
 fn each_refusal_has_its_cause(rt: HostRuntime) -> Result<(), Fail> {
     let alloc = rt.alloc();
@@ -419,9 +468,8 @@ fn each_refusal_has_its_cause(rt: HostRuntime) -> Result<(), Fail> {
     let misplaced = Fault::SourceFault(LoadFault { kind: 11, line: 2 });
     let no_end = Fault::ScriptFault(ScriptFault { kind: 6, line: 2 });
     let second_end = Fault::ScriptFault(ScriptFault { kind: 1, line: 2 });
-    let job = Fault::ScriptFault(ScriptFault { kind: 99, line: 1 });
     let missing = Fault::FileFault { which: 0 };
-    let cases: [(&[&[u8]], &[u8], &[u8], Option<u64>, Fault, u8); 22] = [
+    let cases: [(&[&[u8]], &[u8], &[u8], Option<u64>, Fault, u8); 24] = [
         (&[], SOURCE, SCRIPT, None, Fault::Usage, 2),
         (&[b"solo", b"s"], SOURCE, SCRIPT, None, Fault::Usage, 2),
         (
@@ -470,15 +518,24 @@ fn each_refusal_has_its_cause(rt: HostRuntime) -> Result<(), Fail> {
         (solo, SOURCE, &long, None, Fault::TooLong { which: 1 }, 4),
         (solo, &whole, &long, None, no_main, 5),
         (solo, b"\nBEGIN\n", b"", None, misplaced, 5),
-        (solo, BLOCKS, b"", None, unplayed, 5),
+        (solo, PERIPHERAL, b"", None, unplayed, 5),
         (&[b"load"], SOURCE, SCRIPT, None, Fault::Usage, 2),
+        (&[b"make"], SOURCE, SCRIPT, None, Fault::Usage, 2),
+        (&[b"make", b"s"], SOURCE, SCRIPT, None, Fault::Usage, 2),
+        (
+            &[b"make", b"1000", b"x"],
+            SOURCE,
+            SCRIPT,
+            None,
+            Fault::Usage,
+            2,
+        ),
         (&[b"load", b"x"], SOURCE, SCRIPT, None, missing, 3),
         (load, &long, SCRIPT, None, Fault::TooLong { which: 0 }, 4),
         (load, b"", SCRIPT, None, no_main, 5),
         (load, b"\nBEGIN\n", b"", None, misplaced, 5),
         (solo, SOURCE, &whole, None, no_end, 6),
         (solo, SOURCE, b"END 9\nEND 9", None, second_end, 6),
-        (solo, SOURCE, b"AT 8 JOB READ MB 0\nEND 9\n", None, job, 6),
     ];
     for (words, source, script, failing, fault, status) in cases {
         let mut files = files_of(alloc, source, script, failing)?;

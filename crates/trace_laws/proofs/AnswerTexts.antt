@@ -1,21 +1,24 @@
 -- What an answer's text tells.
-use Rattle.std.proofs.Common.{◌≡◌, ◌∙◌, ℕ, ◌+◌, ◌^◌, ◌<◌, List, ◌∷◌, ◌++◌, length, refl, ap, sym, arith, inl}
-use Rattle.std.specs.Prelude.{get_or, codes}
+use Rattle.std.proofs.Common.{◌≡◌, ◌∙◌, ℕ, ◌+◌, ◌^◌, ◌<◌, List, ◌∷◌, ◌++◌, length, refl, ap, sym, subst, arith, inl}
+use Rattle.std.specs.Prelude.{true, get_or, codes}
 use Rattle.std.specs.Fmt.{decimal}
 use Rattle.std.proofs.lemmas.List.{append_assoc, append_cancel_left}
 use Rattle.std.proofs.lemmas.List.FromFn.{length-map-range_with_len}
 use Rattle.std.proofs.lemmas.Fmt.{decimal_injective}
+use Rattle.std.proofs.lemmas.Bool.Decides.{nat_tests}
 use Rattle.s7_events.specs.declared.entry.Side.{Side}
 use Rattle.s7_events.specs.declared.entry.Side.TheVariants.{A, B}
 use Rattle.s7_events.specs.declared.entry.Loss.{Loss}
 use Rattle.s7_events.specs.declared.entry.Loss.TheVariants.{Failed, Suspect}
 use Rattle.s7_events.specs.declared.entry.StopCode.{StopCode}
 use Rattle.s7_events.specs.declared.entry.StopCode.TheVariants as stops
-use Rattle.s7_events.specs.declared.entry.Ask.{Ask}
-use Rattle.s7_events.specs.declared.entry.Ask.TheVariants as asks
 use Rattle.s7_events.specs.declared.entry.Answer.{Answer}
 use Rattle.s7_events.specs.declared.entry.Answer.TheVariants as answers
-use Rattle.plant_script.specs.Plan.{Plan}
+use Rattle.s7_events.specs.declared.entry.Request.{Request}
+use Rattle.s7_events.specs.Priorities.{is_alarm}
+use Rattle.plant_script.specs.Form.{IsJobForm}
+use Rattle.plant_script.specs.Plan.{Plan, IsPlan}
+use Rattle.alarm_queue.specs.declared.alarm.DueAlarm.{DueAlarm}
 use Rattle.plant_script.specs.InputImage.{image_byte, input_image}
 use Rattle.pair_core.specs.Setup.{Setup}
 use Rattle.pair_core.specs.Ledger.{Ledger}
@@ -23,11 +26,14 @@ use Rattle.pair_core.specs.Lawful.{MayAnswer}
 use Rattle.trace_text.specs.Image.{hex, image}
 use Rattle.trace_text.specs.EntryText.{side_word, stop_word, lost_text, answer_text}
 use Rattle.pair_core.proofs.Answers.{answer_any, plain_any}
+use Rattle.pair_core.proofs.Waiting.{IsFit, AreFit, GoesFirst, goes_first}
+use Rattle.pair_core.proofs.JobForms.{next_form, job_next}
 use Rattle.trace_laws.proofs.Splits.{Free, IsMark, line_feed, free_by, free_word, free_append, split_at}
 use Rattle.trace_laws.proofs.Numbers.{decimal_free, hex_one, hex_free}
 use Rattle.trace_laws.proofs.Images.{image_one, image_free}
+use Rattle.trace_laws.proofs.JobTexts.{job_one, job_free, job_head}
 
--- An answer at moment k whose text tells it: an image has 64 bytes, a value 4, and a moment is k. Jobs are no answers yet.
+-- An answer at moment k whose text tells it: an image has 64 bytes, a value 4, a moment is k, and a job is in its ranges.
 abbrev pub IsTold : ℕ → Answer → Type 0
 IsTold k (answers.Image bytes) = length bytes ≡ 64
 IsTold k (answers.Value value) = value < 256 ^ 4
@@ -36,7 +42,7 @@ IsTold k answers.Done = Unit {0}
 IsTold k answers.Go = Unit {0}
 IsTold k answers.Hold = Unit {0}
 IsTold k (answers.Alarm ob info) = (ob < 2 ^ 64) × (info < 256 ^ 4)
-IsTold k (answers.Job job) = ⊥
+IsTold k (answers.Job job) = IsJobForm job
 IsTold k (answers.Lost side why) = Unit {0}
 IsTold k (answers.Back side) = Unit {0}
 IsTold k answers.NoModule = Unit {0}
@@ -143,12 +149,15 @@ answer_one k answers.Done answers.Done ta tb e = refl
 answer_one k answers.Go answers.Go ta tb e = refl
 answer_one k answers.Hold answers.Hold ta tb e = refl
 answer_one k (answers.Alarm ob info) (answers.Alarm ob' info') ta tb e = alarm_one ob info ob' info' ta.0 tb.0 ta.1 tb.1 e
-answer_one k (answers.Job job) b ta tb e = absurd ta
-answer_one k a (answers.Job job) ta tb e = absurd tb
+answer_one k (answers.Job job) (answers.Job job') ta tb e = ap answers.Job (job_one job job' ta tb e)
 answer_one k (answers.Lost s w) (answers.Lost s' w') ta tb e = lost_one s w s' w' e
 answer_one k (answers.Back s) (answers.Back s') ta tb e = ap answers.Back (side_one s s' (tail_one (codes "BACK ") (side_word s) (side_word s') e))
 answer_one k answers.NoModule answers.NoModule ta tb e = refl
 answer_one k (answers.CpuStop c) (answers.CpuStop c') ta tb e = ap answers.CpuStop (stop_one c c' (tail_one (codes "CPUSTOP ") (stop_word c) (stop_word c') e))
+answer_one k (answers.Job job) (answers.Lost s w) ta tb e = absurd (omega (arith, ap form e, job_head job, lost_form s w))
+answer_one k (answers.Lost s w) (answers.Job job) ta tb e = absurd (omega (arith, ap form e, job_head job, lost_form s w))
+answer_one k (answers.Job job) b ta tb e = absurd (omega (arith, ap form e, job_head job))
+answer_one k a (answers.Job job) ta tb e = absurd (omega (arith, ap form e, job_head job))
 answer_one k (answers.Lost s w) b ta tb e = absurd (omega (arith, ap form e, lost_form s w))
 answer_one k a (answers.Lost s w) ta tb e = absurd (omega (arith, ap form e, lost_form s w))
 answer_one k (answers.Image x) b ta tb e = absurd (omega (arith, ap form e))
@@ -175,7 +184,7 @@ answer_free k (answers.Alarm ob info) t =
     (free_append 10 (codes "ALARM " ++ decimal ob) (codes " ")
     (free_append 10 (codes "ALARM ") (decimal ob) (free_by 10 (codes "ALARM ") refl) (decimal_free 10 ob (inl (omega arith)))) (free_by 10 (codes " ") refl))
     (hex_free 10 4 info line_feed)
-answer_free k (answers.Job job) t = absurd t
+answer_free k (answers.Job job) t = job_free job
 answer_free k (answers.Lost s w) t = lost_free s w
 answer_free k (answers.Back s) t = free_append 10 (codes "BACK ") (side_word s) (free_by 10 (codes "BACK ") refl) (side_free s)
 answer_free k answers.NoModule t = free_by 10 (codes "NOMODULE") refl
@@ -187,8 +196,21 @@ image_told : (plan : Plan) (k : ℕ) → length (input_image plan k) ≡ 64
 unfolding input_image
 image_told plan k = length-map-range_with_len (image_byte plan k) 0 64
 
--- a lawful answer is told
-pub lawful_told : (p : Setup) (g : Ledger) (ask : Ask) (a : Answer) → MayAnswer p g ask a → IsTold g.moment a
-lawful_told p g ask a may =
-    answer_any (IsTold g.moment) p g ask a may (λ t. tt) tt
-    (λ x is. plain_any (IsTold g.moment) p.plan g.moment ask x is tt (image_told p.plan g.moment) tt refl)
+small_block : (ob : ℕ) → is_alarm ob ≡ true → ob < 2 ^ 64
+small_block ob h = grind (arith, nat_tests)
+
+fit_told : (k : ℕ) (x : DueAlarm) → IsFit x → IsTold k (answers.Alarm x.ob x.info)
+fit_told k x fit = (small_block x.ob fit.block, fit.small)
+
+first_told : (k priority : ℕ) (xs : List DueAlarm) (alarm : ℕ × ℕ) → AreFit xs → GoesFirst priority xs alarm → IsTold k (answers.Alarm alarm.0 alarm.1)
+first_told k priority xs alarm fit first =
+    let each = subst AreFit first.is fit in
+    subst (λ (a : ℕ × ℕ). IsTold k (answers.Alarm a.0 a.1)) first.same (fit_told k first.first (each.each 0 first.first (omega arith)))
+
+-- a lawful answer is told, where the script has no fault and the alarms that wait are such that may be answers
+pub lawful_told : (p : Setup) (g : Ledger) (request : Request) (a : Answer) → IsPlan p.plan → AreFit g.waiting → MayAnswer p g request a → IsTold g.moment a
+lawful_told p g request a fine fit may =
+    answer_any (IsTold g.moment) p g request a may (λ t. tt) tt
+    (λ x first. first_told g.moment request.prio g.waiting x fit (goes_first request.prio g.waiting x first))
+    (λ j none next. next_form p.plan g.jobs g.moment j fine (job_next p g request.ask j next))
+    (λ x none is. plain_any (IsTold g.moment) p.plan g.moment request.ask x is tt (image_told p.plan g.moment) tt refl)

@@ -1,6 +1,7 @@
 pub mod AnswerTexts
 pub mod AskTexts
 pub mod Images
+pub mod JobTexts
 pub mod Lines
 pub mod Numbers
 pub mod Printed

@@ -6,7 +6,7 @@ use Rattle.s7_events.specs.declared.entry.Ask.TheVariants as asks
 use Rattle.s7_events.specs.declared.entry.Request.{Request}
 use Rattle.s7_events.specs.declared.entry.Entry.{Entry}
 use Rattle.s7_base.specs.Blocks.{Program}
-use Rattle.plant_script.specs.Plan.{Plan}
+use Rattle.plant_script.specs.Plan.{Plan, IsPlan}
 use Rattle.trace_text.specs.declared.mode.Mode.{Mode}
 use Rattle.trace_text.specs.declared.mode.Mode.TheVariants.{Solo, Pair, TailOnly}
 use Rattle.pair_core.specs.declared.endings.Ended.{Ended}
@@ -34,8 +34,9 @@ HasRecord Solo = Unit {0}
 HasRecord Pair = Unit {0}
 HasRecord TailOnly = ⊥
 
--- a run of this program, by its script, whose text has the record
+-- a run of this program, by a script without fault, whose text has the record
 pub record IsWritten (program : Program) (given : Run) : Type 0 where
+  pub plan : IsPlan given.plan
   pub run : IsRun program given.plan given.solo given.entries given.showings given.ended
   pub has_record : HasRecord given.mode
 

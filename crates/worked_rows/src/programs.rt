@@ -1,8 +1,9 @@
 //! Plays small programs, and says of each whether its trace ends with the lines that were worked out by hand.
 //!
 //! The file `programs` lists the files that hold them. In these `program NAME` begins a program, `script LINE` is a line of its
-//! script, and `trace LINE / LINE` gives the last lines of its trace and ends it. Each other line is one of its source, and `#`
-//! begins a comment. A program without a script is played for three entries, which are a cycle.
+//! script, `letters PATTERN` has it played on both sides by this pattern, and `trace LINE / LINE` gives the last lines of its trace and
+//! ends it. Each other line is one of its source, and `#` begins a comment. A program without a script is played for three entries,
+//! which are a cycle; one without letters on side A alone.
 ghost use Rattle.std.specs.Prelude.{◌≡◌, length, IfOk};
 
 use crate::playing::{new_side, words_of};
@@ -24,6 +25,7 @@ struct Program<'a> {
     name: &'a str,
     source: Vec<u8>,
     script: Vec<u8>,
+    letters: Option<&'a str>,
 }
 
 /// Adds a line to a text.
@@ -39,11 +41,16 @@ impl<'a> Program<'a> {
             name,
             source: Vec::new(alloc),
             script: Vec::new(alloc),
+            letters: None,
         }
     }
 
-    /// Adds a line of the script or of the source.
-    fn take_line(&mut self, line: &str) -> anyhow::Result<()> {
+    /// Takes the letters, or adds a line of the script or of the source.
+    fn take_line(&mut self, line: &'a str) -> anyhow::Result<()> {
+        if let Some(letters) = line.strip_prefix("letters ") {
+            self.letters = Some(letters);
+            return Ok(());
+        }
         match line.strip_prefix("script ") {
             Some(line) => push_line(&mut self.script, line),
             None => push_line(&mut self.source, line),
@@ -57,7 +64,18 @@ fn two(alloc: Global, first: &[u8], second: &[u8]) -> anyhow::Result<Vec<Vec<u8>
     Ok(vec![in alloc; first.to_vec(alloc)?, second.to_vec(alloc)?]?)
 }
 
-/// Plays a program on side A alone, over files in memory.
+/// The words of the command that plays a program.
+fn command_of(alloc: Global, program: &Program<'_>) -> anyhow::Result<Vec<Vec<u8>>> {
+    match program.letters {
+        Some(letters) => {
+            let words = format!(in alloc; "turns\nsource\nscript\n{letters}")?;
+            words_of(alloc, &words)
+        }
+        None => words_of(alloc, "solo\nsource\nscript"),
+    }
+}
+
+/// Plays a program over files in memory.
 fn play_program(
     alloc: Global,
     program: &Program<'_>,
@@ -73,7 +91,7 @@ fn play_program(
     let mut files = MemFiles::new(alloc, names, contents, Vec::new(alloc))
         .ok()
         .context("no memory")?;
-    let words = words_of(alloc, "solo\nsource\nscript")?;
+    let words = command_of(alloc, program)?;
     let mut a = new_side(alloc)?;
     let mut b = new_side(alloc)?;
     let outcome = serve_alone(alloc, &words, &mut files, sink, &mut a, &mut b);

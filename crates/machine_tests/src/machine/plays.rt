@@ -18,7 +18,7 @@ const STOP: Request = Request {
     ask: Ask::Stop(StopCode::NoOb121),
 };
 
-fn assert_notes(rt: &impl Abort, machine: &Machine, notes: &[(u64, DiagCode)])
+pub(super) fn assert_notes(rt: &impl Abort, machine: &Machine, notes: &[(u64, DiagCode)])
     requires { IsRunning machine.now }
 {
     assert_eq!(rt; machine.note_count() as usize, notes.len());

@@ -1,5 +1,5 @@
 -- The next number is found too.
-use Rattle.std.proofs.Common.{◌≡◌, ℕ, ◌+◌, ◌<◌, length, slice_get, inl, inr, ap, ◌∙◌, arith}
+use Rattle.std.proofs.Common.{◌∙◌, arith}
 use Rattle.std.proofs.lemmas.List.{length-set}
 use Rattle.mc_machine.proofs.Stored.{found_so_far}
 use Rattle.mc_machine.proofs.index.indices_of.Goals as goal

@@ -1,7 +1,7 @@
 -- A turn in a block is a turn of its place.
 use Rattle.std.proofs.Common.{sym, ◌∙◌}
 use Rattle.mc_machine.specs.EngineView.{level_in, config_of}
-use Rattle.mc_machine.proofs.Sound.{run_follows, run_leaves, run_ticks, sound_after}
+use Rattle.mc_machine.proofs.Sound.{run_follows, run_ticks, sound_after}
 use Rattle.mc_machine.proofs.Stored.{decoded_found}
 use Rattle.mc_machine.proofs.engine.Engine.run.Goals as goal
 

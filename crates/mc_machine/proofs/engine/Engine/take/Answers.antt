@@ -1,8 +1,10 @@
 -- The CPU has one answer more.
-use Rattle.std.proofs.Common.{◌≡◌, ℕ, subst, ap, IfSome, Some}
+use Rattle.std.proofs.Common.{◌≡◌, ℕ, subst, sym, ap, IfSome, Some}
 use Rattle.mc_machine.specs.Meaning.{Cycles, Reaction, Again, Completes, Asks, Moves, Halts, Leaves, Ends, Goes, Calls, Begins, answered, cycles_after}
-use Rattle.mc_machine.specs.Stands.{Config, AsksAt, IsTaken, Reacts}
+use Rattle.mc_machine.specs.Stands.{Config, AsksAt, IsTaken, MayInterrupt, Reacts}
+use Rattle.statement_effects.specs.State.{Memory}
 use Rattle.mc_machine.specs.EngineView.{config_of}
+use Rattle.mc_machine.proofs.Alarms.{may_interrupt}
 use Rattle.mc_machine.proofs.Keeps.{stands_take}
 use Rattle.mc_machine.proofs.Sound.{asked_at}
 use Rattle.mc_machine.proofs.engine.Engine.take.Goals as goal
@@ -39,3 +41,11 @@ react-requires-clause-asked c =
     let p : c.args.self.now.waits ≡ Some c.in-Some.request = cc in
     rw (ap (λ (k : Config). k.place) c.count_cycle.ensures.counted)
     (asked_at here.program here.since here.memory here.place c.in-Some.request (subst (λ o. IfSome o (AsksAt here)) p c.requires.valid.waits))
+
+pub react-requires-clause-above : goal.react-requires-clause-above
+react-requires-clause-above c =
+    let here = config_of c.args.self.now in
+    let x = c.args.answer.now in
+    let p : c.args.self.now.waits ≡ Some c.in-Some.request = cc in
+    subst (λ (m : Memory). MayInterrupt m x) (sym (ap (λ (k : Config). k.memory) c.count_cycle.ensures.counted))
+    (may_interrupt here c.in-Some.request x (subst (λ o. IfSome o (AsksAt here)) p c.requires.valid.waits) c.requires.valid.sound (subst (λ o. IsTaken o x) p c.requires.fits))

@@ -1,11 +1,12 @@
-use Rattle.std.proofs.Common.{◌≡◌, ◌∙◌, ◌*◌, [], length, None, ap, sym, subst, arith}
+use Rattle.std.proofs.Common.{◌≡◌, ◌∙◌, ◌*◌, [], length, ap, sym, subst, arith}
 use Rattle.s7_events.specs.declared.entry.Side.TheVariants.{A, B}
 use Rattle.pair_core.specs.Setup.{Setup}
 use Rattle.pair_core.specs.Ledger.{ledger, standing}
 use Rattle.pair_core.specs.CutsKept.{IsCutsAt}
 use Rattle.pair_core.specs.Sides.{of_side}
-use Rattle.pair_core.specs.World.{World, shown_past, first_world}
+use Rattle.pair_core.specs.World.{World, shown_past}
 use Rattle.pair_core.specs.Progress.{IsAlone}
+use Rattle.pair_core.proofs.Derived.{first_waits, first_jobs}
 use Rattle.pair_core.proofs.Snoc.{moment_is}
 use Rattle.pair_core.proofs.Visits.{begun, good_begun}
 use Rattle.pair_core.proofs.Progress.{alone_first}
@@ -22,7 +23,9 @@ invariant_of-result c =
           watch = ap (λ es. (ledger setup es).watch) (sym none);
           moment = moment_is setup c.in_ok-log.log.entries;
           past = λ side. elim side as (λ s. of_side (record { a = 0; b = 0 }) s ≡ shown_past c.in_ok-shown.shown.list s) [ A ↦ ap (λ xs. shown_past xs A) (sym unshown) | B ↦ ap (λ xs. shown_past xs B) (sym unshown) ];
-          image = (0, omega arith, c.new.ensures c.args.script 0);
+          image = (0, omega arith, c.new-image.ensures c.args.script 0);
+          waits = first_waits setup c.args.blocks.now c.in_ok-log.log.entries c.in_ok-waiting.waiting c.due.new.self c.in_ok-program.ensures none c.in_ok-waiting.ensures c.due.ensures;
+          jobs = first_jobs setup c.in_ok-log.log.entries c.in_ok-jobs.jobs none c.in_ok-jobs.ensures;
           cuts = subst (λ k. IsCutsAt c.args.script k c.new-cuts.result) (sym (ap length none)) c.new-cuts.ensures;
         };
         few = omega (arith, ap length none);

@@ -5,6 +5,9 @@ use Rattle.pair_core.specs.Sides.{after_answer}
 use Rattle.pair_core.proofs.Advances.{goes_on}
 use Rattle.pair_core.specs.Monitor.{watch_by}
 use Rattle.pair_core.specs.Kept.{setup_of}
+use Rattle.pair_core.specs.Waits.{MayLeave}
+use Rattle.pair_core.proofs.Derived.{added_waits, added_jobs, may_leave}
+use Rattle.pair_core.proofs.JobForms.{jobs_few}
 use Rattle.pair_core.proofs.Snoc.{ledger_added, moment_is}
 use Rattle.pair_core.proofs.state.State.add.Goals as goal
 
@@ -23,6 +26,10 @@ returns-clause-kept c =
         moment = moment_is p c.append.new.self.entries;
         past = kept.derived.past;
         image = (kept.derived.image.0, omega (arith, kept.derived.image.1, ap (λ l. length l.entries) c.append.ensures, length-append es (c.args.entry ∷ [])), kept.derived.image.2);
+        waits = added_waits p es c.append.new.self.entries e c.args.self.now.derived.waiting c.advance.new.waiting c.len-moment.result c.watch_by-self.result (ap (λ l. l.entries) c.append.ensures) c.len-moment.ensures
+            (c.watch_by-self.ensures ∙ ap (λ n. watch_by c.args.self.now.derived.watch n e.request.ask e.answer) (c.len-moment.ensures ∙ sym (moment_is p es)) ∙ ap (λ w. watch_by w (ledger p es).moment e.request.ask e.answer) kept.derived.watch)
+            kept.derived.waits c.advance.ensures.waiting c.advance.ensures.schedule c.advance.ensures.moment c.advance.ensures.left;
+        jobs = added_jobs p es c.append.new.self.entries e c.args.self.now.derived.jobs c.note.new.self (ap (λ l. l.entries) c.append.ensures) kept.derived.jobs c.note.ensures;
         cuts = subst (λ k. IsCutsAt c.args.self.now.setup.script k c.advance-self.result) c.len.ensures c.advance-self.ensures;
       };
       few = omega (arith, ap (λ l. length l.entries) c.append.ensures, length-append es (c.args.entry ∷ []));
@@ -35,3 +42,15 @@ pub advance-self-requires : goal.advance-self-requires
 advance-self-requires c =
     let es = c.args.self.now.log.record.entries in
     goes_on c.args.self.now.setup.script (length es) c.len.result c.args.self.now.derived.cuts (omega (arith, c.len.ensures, ap (λ l. length l.entries) c.append.ensures, length-append es (c.args.entry ∷ []))) c.requires.kept.derived.cuts
+
+pub advance-requires-clause-leaves : goal.advance-requires-clause-leaves
+advance-requires-clause-leaves c =
+    let self = c.args.self.now in
+    let e = c.args.entry in
+    subst (MayLeave e.answer) (sym c.requires.kept.derived.waits.waiting)
+    (may_leave (setup_of self) (ledger (setup_of self) self.log.record.entries) e.request e.answer c.requires.may)
+
+pub note-requires : goal.note-requires
+note-requires c =
+    let self = c.args.self.now in
+    omega (arith, c.requires.kept.derived.jobs.answered, jobs_few (setup_of self) self.log.record.entries, c.requires.kept.few, c.requires.kept.plan.end_high)

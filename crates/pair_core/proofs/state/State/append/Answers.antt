@@ -7,7 +7,9 @@ use Rattle.pair_core.specs.Ledger.{ledger}
 use Rattle.pair_core.specs.OwnParts.{own_place}
 use Rattle.pair_core.specs.Sides.{of_side}
 use Rattle.pair_core.specs.Kept.{setup_of, log_of}
-use Rattle.pair_core.proofs.Answers.{lawful_takes, lawful_dated}
+use Rattle.pair_core.proofs.Answers.{lawful_dated}
+use Rattle.pair_core.proofs.Fits.{lawful_takes}
+use Rattle.pair_core.proofs.Waiting.{waiting_fit}
 use Rattle.pair_core.proofs.Snoc.{moment_is}
 use Rattle.pair_core.proofs.Opens.{going_at, open_room}
 use Rattle.pair_core.proofs.OwnParts.{last_next}
@@ -25,7 +27,8 @@ pub take-requires-clause-takes : goal.take-requires-clause-takes
 take-requires-clause-takes c =
     let self = c.args.self.now in
     can_take c.ask-request.new.self.machine c.ask-request.result c.answer-answer.result c.ask-request.ensures.waits
-    (lawful_takes (setup_of self) (ledger (setup_of self) self.log.record.entries) c.ask-request.result c.answer-answer.result c.answer-answer.ensures.answer)
+    (lawful_takes (setup_of self) (ledger (setup_of self) self.log.record.entries) c.ask-request.result c.answer-answer.result c.requires.kept.plan
+    (waiting_fit (setup_of self) self.log.record.entries c.requires.kept.plan) c.answer-answer.ensures.answer)
 
 pub add-requires-clause-room : goal.add-requires-clause-room
 add-requires-clause-room c =
@@ -52,7 +55,7 @@ returns-clause-at c =
     let stands = c.ask-request.ensures.stands self.setup.program (answers_of es) (stands_all self.setup.program own es c.args.sub.now c.requires.at alive here) in
     let from : c.from.result ≡ length es = c.from.ensures ∙ c.len-moment.ensures in
     let g = ledger (setup_of self) es in
-    let dated = lawful_dated (setup_of self) g e.request.ask e.answer c.answer-answer.ensures.answer in
+    let dated = lawful_dated (setup_of self) g e.request e.answer c.answer-answer.ensures.answer in
     put_added self.setup.program c.add.new.self.setup.program self.parts c.add.new.self.parts c.take_one.new.parts c.args.side es c.add.new.self.log.record.entries e c.take.new.self
     (ap (λ p. p.program) c.add.ensures.setup ∙ ap (λ p. p.program) c.answer-answer.ensures.setup)
     (ap (λ l. l.entries) c.add.ensures.log ∙ ap (λ w. w.log.entries ++ e ∷ []) world)

@@ -12,14 +12,14 @@ pub ask-requires : goal.ask-requires
 ask-requires c =
     let own = of_side c.args.self.now.parts c.args.side in
     let here = rw c.place_of-moment.ensures at c.entry_at-entry.ensures in
-    let m = met (setup_of c.args.self.now) (log_of c.args.self.now) (own_place own) c.entry_at-entry.result c.requires.good here in
+    let m = met (setup_of c.args.self.now) (log_of c.args.self.now) (own_place own) c.entry_at-entry.result c.requires.kept.plan c.requires.good here in
     can_ask_at c.args.self.now.setup.program own c.args.self.now.log.record.entries c.args.sub.now c.requires.at c.requires.can.0 m.going
 
 pub take-requires-clause-takes : goal.take-requires-clause-takes
 take-requires-clause-takes c =
     let own = of_side c.args.self.now.parts c.args.side in
     let here = rw c.place_of-moment.ensures at c.entry_at-entry.ensures in
-    let m = met (setup_of c.args.self.now) (log_of c.args.self.now) (own_place own) c.entry_at-entry.result c.requires.good here in
+    let m = met (setup_of c.args.self.now) (log_of c.args.self.now) (own_place own) c.entry_at-entry.result c.requires.kept.plan c.requires.good here in
     takes_next c.args.self.now.setup.program own c.args.self.now.log.record.entries c.args.sub.now c.ask.new.self c.entry_at-entry.result.request c.ask.result c.entry_at-entry.result.answer
     c.requires.at c.requires.can.0 c.ask.ensures.waits (c.ask.ensures.next c.args.self.now.setup.program _) m.asked m.fits
 
@@ -36,7 +36,7 @@ returns-clause-at c =
     let es = self.log.record.entries in
     let e = c.entry_at-entry.result in
     let here = rw c.place_of-moment.ensures at c.entry_at-entry.ensures in
-    let m = met (setup_of self) (log_of self) (own_place own) e c.requires.good here in
+    let m = met (setup_of self) (log_of self) (own_place own) e c.requires.kept.plan c.requires.good here in
     let alive = c.requires.can.0 in
     let given = answers_of (take (own_place own) es) in
     let lives = c.ask.ensures.lives ∙ c.requires.at.lives in
