@@ -1,5 +1,5 @@
 -- The pages of 256 bytes on which the areas lie, and what a write does.
-use Rattle.std.specs.Prelude.{◌≡◌, ℕ, ◌+◌, ◌-◌, ◌/◌, ◌≤◌, Bool, true, false, List, [], ◌∷◌, Option, Some, None, length, take, sum_by, slice_index, slice_index_or, slice_set}
+use Rattle.std.specs.Prelude.{◌≡◌, ℕ, ◌+◌, ◌-◌, ◌/◌, ◌≤◌, nat_lt, if◌then◌else◌, Bool, true, false, List, [], ◌∷◌, Option, Some, None, length, take, sum_by, slice_index, slice_index_or, slice_set}
 use Rattle.std.specs.Int.{bytes_high_first}
 use Rattle.cpu_image.specs.declared.area.ByteArea.{ByteArea}
 use Rattle.cpu_image.specs.declared.area.ByteArea.TheVariants.{I, Q, M, Db}
@@ -72,6 +72,11 @@ written area at piece image =
 -- a value is written, the highest byte first
 abbrev pub value_written : ByteArea → ℕ → ℕ → ℕ → Image → Image
 value_written area at width value image = written area at (bytes_high_first width value) image
+
+-- of a value at an address, the highest byte first, those bytes are written into the output image that lie in its 64
+abbrev pub outputs_written : ℕ → ℕ → ℕ → Image → Image
+outputs_written at width value image =
+    if nat_lt at 64 then written Q at (take (64 - at) (bytes_high_first width value)) image else image
 
 -- a bit is written
 abbrev pub bit_written : ByteArea → ℕ → ℕ → Bool → Image → Image

@@ -1,10 +1,10 @@
 //! The areas of a CPU, read and written by bytes and bits.
-ghost use Rattle.std.specs.Prelude.{◌≡◌, ℕ, ◌+◌, ◌-◌, ◌*◌, ◌^◌, ◌<◌, ◌≤◌, List, [], ◌∷◌, length, ◌↔◌, false, OnOk, OnErr, IfOk, IfSome, Err, drop, slice_get, slice_index, slice_range, slice_set};
+ghost use Rattle.std.specs.Prelude.{◌≡◌, ℕ, ◌+◌, ◌-◌, ◌*◌, ◌^◌, ◌<◌, ◌≤◌, List, [], ◌∷◌, length, ◌↔◌, false, OnOk, OnErr, IfOk, IfSome, Err, drop, take, slice_get, slice_index, slice_range, slice_set};
 ghost use Rattle.std.specs.Option.{option_copied, option_map};
 ghost use Rattle.std.specs.Int.{bytes_high_first};
 ghost use Rattle.cpu_image.specs.Values.{IsWidth, value_of, bit_in, with_bit, overwritten};
 ghost use Rattle.cpu_image.specs.Image.{Image, bytes_of, area_bytes, with_bytes, IsMissing, EndsBefore, value_at, bit_at};
-ghost use Rattle.cpu_image.specs.Pages.{HasSizes, page_count, page_of, first_page, offset, is_marked, with_inputs, written, value_written, bit_written};
+ghost use Rattle.cpu_image.specs.Pages.{HasSizes, page_count, page_of, first_page, offset, is_marked, with_inputs, written, value_written, outputs_written, bit_written};
 
 use crate::area::ByteArea;
 use crate::data::{DataBytes, put_piece};
@@ -214,6 +214,22 @@ impl CpuImage {
         Ok(())
     }
 
+    /// Of a value of `width` bytes at an address, the highest first, writes those that lie in the output image, 0 to 63, and marks
+    /// their page. From 64 on none does, and nothing is changed. `width` is 1, 2 or 4.
+    pub fn write_outputs(&mut self, at_byte: u16, width: u8, value: u32)
+        requires width { IsWidth width }
+        requires fits { value < 2 ^ (8 * width) }
+        ensures { self.new ≡ outputs_written at_byte width value self.old }
+    {
+        if at_byte >= 64 {
+            return;
+        }
+        self.show_sizes();
+        let (bytes, from) = bytes_of_value(width, value);
+        let piece = front(&bytes[from..], 64 - usize::from(at_byte));
+        self.put(ByteArea::Q, at_byte, piece);
+    }
+
     /// Returns whether a page is marked. None is after the last.
     pub fn is_marked(&self, page: u32) -> bool
         ensures { result ≡ is_marked self.now page }
@@ -322,6 +338,20 @@ impl CpuImage {
         self.put_bytes(area, at, piece);
         self.marks[first] = true;
         self.marks[last] = true;
+    }
+}
+
+/// The first of some bytes, at most so many.
+fn front(bytes: &[u8], most: usize) -> &[u8]
+    ensures front { result.now ≡ take most bytes.now }
+    ensures most { length result.now ≤ most }
+    ensures few { length result.now ≤ length bytes.now }
+    ensures some { 0 < most → 0 < length bytes.now → 0 < length result.now }
+{
+    if most < bytes.len() {
+        &bytes[..most]
+    } else {
+        bytes
     }
 }
 

@@ -15,6 +15,7 @@ use std::alloc::Global;
 use std::process::Abort;
 use std::test::Fail;
 
+mod access;
 mod alarms;
 mod jobs;
 mod logic;
@@ -32,7 +33,7 @@ const STATUS_OPERANDS: [&str; 10] = [
 ];
 
 /// The area, the unit and the spelling of an operand's address.
-const ADDRESSES: [(&str, u8, u8); 18] = [
+const ADDRESSES: [(&str, u8, u8); 24] = [
     ("IB", 1, 8),
     ("IW", 1, 9),
     ("ID", 1, 10),
@@ -49,6 +50,12 @@ const ADDRESSES: [(&str, u8, u8); 18] = [
     ("I", 1, 0),
     ("Q", 2, 0),
     ("M", 3, 0),
+    ("PIB", 7, 8),
+    ("PIW", 7, 9),
+    ("PID", 7, 10),
+    ("PQB", 8, 8),
+    ("PQW", 8, 9),
+    ("PQD", 8, 10),
     ("T", 9, 0),
     ("C", 10, 0),
 ];
@@ -151,9 +158,6 @@ fn machine_with_blocks(
     let Some(blocks) = Blocks::of(codes, data_blocks) else {
         return Err("not well formed".into());
     };
-    if !is_runnable(&blocks) {
-        return Err("not supported".into());
-    }
     let mut machine = Machine::new();
     if machine.load(alloc, &blocks).is_err() {
         return Err("no memory".into());

@@ -1,25 +1,12 @@
-ghost use Rattle.std.specs.Prelude.{IfOk, IfSome};
-ghost use Rattle.mc_machine.specs.Runnable.{IsRunnable};
-
-use mc_machine::is_runnable;
 use s7_base::{Answer, Area, Ask, Blocks, CodeBlock, CodeKind, DiagCode, Request};
 use std::alloc::Global;
 use std::test::Fail;
 use subsystem::*;
 
-fn empty_program(alloc: Global) -> Result<Option<Blocks>, Fail>
-    ensures { IfOk result (λ blocks. IfSome blocks IsRunnable) }
-{
+fn empty_program(alloc: Global) -> Result<Option<Blocks>, Fail> {
     let mut codes = Vec::new(alloc);
     codes.push(CodeBlock::new(CodeKind::Ob, 1, 0, Vec::new(alloc)))?;
-    let Some(blocks) = Blocks::of(codes, Vec::new(alloc)) else {
-        return Ok(None);
-    };
-    Ok(if is_runnable(&blocks) {
-        Some(blocks)
-    } else {
-        None
-    })
+    Ok(Blocks::of(codes, Vec::new(alloc)))
 }
 
 #[test]

@@ -1,8 +1,8 @@
 -- An alarm is above what it interrupts.
-use Rattle.std.proofs.Common.{◌≡◌, ℕ, Bool, true, false, inl, inr, ◌+◌, ◌<◌, ◌≤◌, nat_lt, nat_le, List, [], length, Option, Some, None, Result, Ok, Err, refl, sym, ap, ◌∙◌, subst, arith}
+use Rattle.std.proofs.Common.{◌≡◌, ℕ, Bool, true, false, inl, inr, ◌+◌, ◌<◌, ◌≤◌, nat_lt, nat_le, length, Option, Some, None, Result, Ok, Err, refl, sym, ap, ◌∙◌, subst, arith}
 use Rattle.std.specs.Prelude.{slice_get, not, ◌≢◌, ◌==◌, ◌&&◌, ◌||◌, if◌then◌else◌, unwrap_or}
 use Rattle.std.specs.Option.{option_map}
-use Rattle.std.proofs.lemmas.Bool.{cond_both, and_parts, or_parts, or_left, or_cases, eqb-true, eqb-false, ltb-true, ltb-false, leb-true, leb-false}
+use Rattle.std.proofs.lemmas.Bool.{cond_both, and_parts, or_parts, or_left, or_cases, eqb-true, ltb-true, leb-true}
 use Rattle.s7_base.specs.declared.statement.Statement.{Statement}
 use Rattle.s7_base.specs.declared.blocks.BlockRef.{BlockRef}
 use Rattle.s7_base.specs.Blocks.{Code, Program, code_of}
@@ -11,13 +11,11 @@ use Rattle.s7_events.specs.declared.entry.Ask.TheVariants as asks
 use Rattle.s7_events.specs.declared.entry.Answer.{Answer}
 use Rattle.s7_events.specs.declared.entry.Answer.TheVariants as answers
 use Rattle.s7_events.specs.declared.entry.Request.{Request}
-use Rattle.s7_events.specs.declared.entry.StopCode.{StopCode}
 use Rattle.s7_events.specs.declared.entry.StopCode.TheVariants as stops
 use Rattle.s7_events.specs.declared.diagnostics.DiagCode.{DiagCode}
 use Rattle.s7_events.specs.declared.diagnostics.DiagCode.TheVariants as notes
 use Rattle.s7_base.specs.declared.blocks.CodeKind.TheVariants.{Ob}
 use Rattle.s7_events.specs.Priorities.{is_cyclic, is_process, is_alarm, has_priority, priority_of}
-use Rattle.s7_events.specs.Fitting.{fits}
 use Rattle.level_stack.specs.Levels.{running_prio}
 use Rattle.statement_effects.specs.State.{Memory}
 use Rattle.statement_effects.specs.Levels.{priority_in}
@@ -28,13 +26,13 @@ use Rattle.statement_effects.specs.declared.instruction.JumpInstruction.{JumpIns
 use Rattle.statement_effects.specs.declared.instruction.JumpInstruction.TheVariants as jumps
 use Rattle.statement_effects.specs.declared.instruction.Flow.{Flow}
 use Rattle.statement_effects.specs.declared.instruction.Flow.TheVariants as flow
-use Rattle.statement_effects.specs.JumpEffect.{jumps_where, effect_jump, effect_call_when_set, effect_end_when_set, lowered}
+use Rattle.statement_effects.specs.JumpEffect.{effect_jump, effect_call_when_set, effect_end_when_set, lowered}
 use Rattle.statement_effects.specs.Effect.{effect, effect_of, effect_if, asks_first, onward, onward_with}
 use Rattle.statement_effects.specs.Reading.{instruction_of}
 use Rattle.statement_effects.specs.Areas.{data_length}
 use Rattle.mc_machine.specs.declared.places.Cause.TheVariants.{AlarmCame, BlockMissing}
-use Rattle.mc_machine.specs.Places.{Level, Mode, Fresh, Ticking, Timing, Retriggering, Place, AtOutputs, AtInputs, AtCycle, AtReply, AtStop, Over, At}
-use Rattle.mc_machine.specs.Meaning.{Asks, Ends, Move, Goes, Calls, Begins, statements_of, local_bytes_of, block_entered, error_entered, call_registers, flows, runs, turn_of, request_of, stop_request, takes, Reaction, Again, alarm_note, wants_substitute, level_begun, interrupts, substituted, missing, alarmed_if}
+use Rattle.mc_machine.specs.Places.{Level, Fresh, Ticking, Timing, Retriggering, Reading, Writing, Place, AtOutputs, AtInputs, AtCycle, AtReply, AtStop, Over, At}
+use Rattle.mc_machine.specs.Meaning.{Asks, Ends, Move, Goes, Calls, Begins, statements_of, local_bytes_of, error_entered, flows, runs, turn_of, request_of, read_of, write_of, stop_request, takes, Reaction, Again, alarm_note, wants_substitute, level_begun, interrupts, substituted, missing, alarmed_if}
 use Rattle.mc_machine.specs.Stands.{Config, rank_of, with_newest, AsksAt, IsMoved, IsHigh, AreBegun, IsSound, Interrupts, MayInterrupt, Reacts}
 use Rattle.mc_machine.proofs.Begun.{no_level}
 use Rattle.mc_machine.proofs.Sound.{asked_failed, asked_called, asked_instance}
@@ -152,6 +150,8 @@ asks_same (groups.Timer op n) memory e = absurd cc
 asks_same (groups.Timed op n) memory e = refl
 asks_same (groups.Counter op n) memory e = absurd (onward_goes memory _ e)
 asks_same (groups.Data i) memory e = absurd (onward_goes memory _ e)
+asks_same (groups.ReadPeripheral access) memory e = refl
+asks_same (groups.WritePeripheral access) memory e = refl
 asks_same (groups.Call callee) memory e = absurd cc
 asks_same (groups.CallInstance callee number) memory e = absurd cc
 asks_same (groups.CallWhenSet callee) memory e = absurd (call_goes callee memory.registers e)
@@ -181,6 +181,10 @@ flow_prio program block at level before memory r flow.AskNow same e =
     let q : request_of asks.Now (priority_in memory) ≡ r = cc in sym (ap (λ (r : Request). r.prio) q) ∙ ap priority_in (same refl)
 flow_prio program block at level before memory r flow.AskRetrigger same e =
     let q : request_of asks.Retrigger (priority_in memory) ≡ r = cc in sym (ap (λ (r : Request). r.prio) q) ∙ ap priority_in (same refl)
+flow_prio program block at level before memory r (flow.AskRead access) same e =
+    let q : request_of (read_of access) (priority_in memory) ≡ r = cc in sym (ap (λ (r : Request). r.prio) q) ∙ ap priority_in (same refl)
+flow_prio program block at level before memory r (flow.AskWrite access) same e =
+    let q : request_of (write_of access memory) (priority_in memory) ≡ r = cc in sym (ap (λ (r : Request). r.prio) q) ∙ ap priority_in (same refl)
 flow_prio program block at level before memory r flow.Stop same e = absurd cc
 
 run_prio : (program : Program) (block : BlockRef) (at : ℕ) (level : Level) (since : ℕ) (memory : Memory) (r : Request) (o : Option Statement) → runs program block at level since memory o ≡ Asks r → r.prio ≡ priority_in memory
@@ -214,6 +218,10 @@ asked_prio n program since memory (At block at level Timing) r e high begun lt =
     let q : request_of asks.Now (priority_in memory) ≡ r = cc in sym (ap (λ (r : Request). r.prio) q)
 asked_prio n program since memory (At block at level Retriggering) r e high begun lt =
     let q : request_of asks.Retrigger (priority_in memory) ≡ r = cc in sym (ap (λ (r : Request). r.prio) q)
+asked_prio n program since memory (At block at level (Reading access)) r e high begun lt =
+    let q : request_of (read_of access) (priority_in memory) ≡ r = cc in sym (ap (λ (r : Request). r.prio) q)
+asked_prio n program since memory (At block at level (Writing access)) r e high begun lt =
+    let q : request_of (write_of access memory) (priority_in memory) ≡ r = cc in sym (ap (λ (r : Request). r.prio) q)
 
 -- the info of OB70 is an address
 fits_narrow : (ob info : ℕ) → (not (ob == 70) || nat_le info 65535) ≡ true → ob ≡ 70 → info ≤ 65535

@@ -10,7 +10,7 @@ use Rattle.s7_events.specs.declared.entry.StopCode.{StopCode}
 use Rattle.s7_base.specs.Blocks.{Code, Program, code_of}
 use Rattle.statement_effects.specs.declared.areas.Registers.{Registers}
 use Rattle.statement_effects.specs.State.{Memory}
-use Rattle.mc_machine.specs.Places.{Level, Fresh, Ticking, Timing, Retriggering, Place, AtOutputs, AtInputs, AtCycle, AtReply, AtStop, Over, At}
+use Rattle.mc_machine.specs.Places.{Level, Fresh, Ticking, Timing, Retriggering, Reading, Writing, Place, AtOutputs, AtInputs, AtCycle, AtReply, AtStop, Over, At}
 use Rattle.statement_effects.specs.declared.instruction.Flow.{Flow}
 use Rattle.statement_effects.specs.declared.instruction.Flow.TheVariants as flow
 use Rattle.statement_effects.specs.Areas.{with_registers, data_length}
@@ -101,6 +101,8 @@ counts_flows program block at level since memory lt (flow.Fail error) =
     counts_failed (At block (at + 1) level Fresh) level memory error since lt (error_entered program level memory error)
 counts_flows program block at level since memory lt flow.AskNow = tt
 counts_flows program block at level since memory lt flow.AskRetrigger = tt
+counts_flows program block at level since memory lt (flow.AskRead access) = tt
+counts_flows program block at level since memory lt (flow.AskWrite access) = tt
 counts_flows program block at level since memory lt flow.Stop = tt
 
 counts_runs : (program : Program) (block : BlockRef) (at : ℕ) (level : Level) (since : ℕ) (memory : Memory) (o : Option Statement) → Counts (runs program block at level since memory o) since
@@ -120,6 +122,8 @@ counts_turn program since memory (At block at level Timing) = tt
 counts_turn program since memory (At block at level Fresh) = counts_runs program block at level since memory (slice_get (statements_of program block) at)
 counts_turn program since memory (At block at level Ticking) = tt
 counts_turn program since memory (At block at level Retriggering) = tt
+counts_turn program since memory (At block at level (Reading access)) = tt
+counts_turn program since memory (At block at level (Writing access)) = tt
 
 -- a turn asks no more of the meaning that it is given than what it says below what is left
 pub turn_same : (m m' : Meaning) (p : Place) (rest rest' : Rest) (s : State) (a : List Answer) → Same m m' (left s a) → Agree rest rest' (left s a) → turn m p rest s a ≡ turn m' p rest' s a

@@ -1,9 +1,9 @@
 -- Where a level of a higher priority begins, there is room for it.
-use Rattle.std.proofs.Common.{◌≡◌, ℕ, suc, ◌+◌, ◌-◌, ◌*◌, ◌<◌, ◌≤◌, Bool, true, false, nat_lt, Result, Ok, Err, List, [], ◌∷◌, ◌++◌, length, refl, sym, ap, ◌∙◌, subst, arith}
-use Rattle.std.specs.Prelude.{◌≢◌, ◌==◌, if◌then◌else◌, unwrap_or}
+use Rattle.std.proofs.Common.{◌≡◌, ℕ, suc, ◌+◌, ◌-◌, ◌*◌, ◌<◌, ◌≤◌, nat_lt, Ok, Err, List, [], ◌∷◌, ◌++◌, length, refl, sym, ap, ◌∙◌, subst, arith}
+use Rattle.std.specs.Prelude.{◌≢◌, ◌==◌, unwrap_or}
 use Rattle.std.proofs.lemmas.Bool.{cond_both, eqb-true, eqb-false, ltb-true, ltb-false}
 use Rattle.s7_base.specs.declared.blocks.BlockRef.{BlockRef}
-use Rattle.level_stack.specs.Levels.{LevelState, with_last, entered, prio_of, last_of, running_prio, running_frames, local_count}
+use Rattle.level_stack.specs.Levels.{LevelState, entered, prio_of, running_prio, running_frames, local_count}
 use Rattle.level_stack.proofs.Last.{last_above, with_last-append}
 use Rattle.level_stack.specs.declared.level.LevelFault.{LevelFault}
 use Rattle.level_stack.specs.declared.level.LevelFault.TheVariants.{DepthReached, LocalFull}

@@ -1,5 +1,5 @@
 -- Where a request is asked, and what follows a statement.
-use Rattle.std.proofs.Common.{◌≡◌, ℕ, suc, true, ◌+◌, ◌<◌, ◌≤◌, List, [], ◌∷◌, ◌++◌, length, Option, Some, None, Result, Ok, Err, refl, sym, ap, ◌∙◌, subst, arith, add-zero, zero-add, length-append}
+use Rattle.std.proofs.Common.{◌≡◌, ℕ, suc, true, ◌+◌, ◌<◌, ◌≤◌, List, [], ◌∷◌, ◌++◌, length, Option, Some, None, Result, Ok, Err, refl, sym, ap, ◌∙◌, subst, inl, inr, ◌*◌, ◌%◌, ◌^◌, arith, add-zero, zero-add, length-append}
 use Rattle.std.specs.Prelude.{slice_get, nat_lt, if◌then◌else◌}
 use Rattle.std.proofs.lemmas.Bool.{cond_both, lt-ltb, le-ltb}
 use Rattle.s7_base.specs.declared.statement.Statement.{Statement}
@@ -11,16 +11,21 @@ use Rattle.s7_events.specs.declared.entry.StopCode.{StopCode}
 use Rattle.s7_base.specs.Blocks.{Code, Program, code_of}
 use Rattle.statement_effects.specs.declared.areas.Registers.{Registers}
 use Rattle.statement_effects.specs.State.{Memory}
-use Rattle.statement_effects.specs.Areas.{data_length}
+use Rattle.statement_effects.specs.Areas.{bytes_in, data_length}
+use Rattle.statement_effects.specs.MoveEffect.{transferred}
+use Rattle.statement_effects.specs.declared.instruction.Access.{Access}
+use Rattle.statement_effects.specs.declared.instruction.Width.{Width}
+use Rattle.statement_effects.specs.declared.instruction.Width.TheVariants as widths
+use Rattle.cpu_image.specs.Values.{IsWidth}
 use Rattle.statement_effects.specs.Levels.{priority_in}
-use Rattle.mc_machine.specs.Places.{Level, Mode, Fresh, Ticking, Timing, Retriggering, Place, AtOutputs, AtInputs, AtCycle, AtReply, AtStop, Over, At, Frame}
+use Rattle.mc_machine.specs.Places.{Level, Mode, Fresh, Ticking, Timing, Retriggering, Reading, Writing, Place, AtOutputs, AtInputs, AtCycle, AtReply, AtStop, Over, At, Frame}
 use Rattle.statement_effects.specs.declared.instruction.Flow.{Flow}
 use Rattle.statement_effects.specs.declared.instruction.Flow.TheVariants as flow
 use Rattle.statement_effects.specs.Effect.{effect_of, effect_if, asks_first}
 use Rattle.statement_effects.specs.Reading.{instruction_of}
 use Rattle.statement_effects.specs.declared.instruction.Instruction.{Instruction}
 use Rattle.std.specs.Option.{option_map}
-use Rattle.mc_machine.specs.Meaning.{Turn, Asks, Moves, Halts, Leaves, Ends, Goes, Calls, Begins, statements_of, block_entered, error_entered, failed, begun, called, called_instance, call_registers, instance_registers, flows, runs, turn_of, request_of, stop_request}
+use Rattle.mc_machine.specs.Meaning.{Turn, Asks, Moves, Halts, Leaves, Ends, Goes, Calls, Begins, statements_of, block_entered, error_entered, failed, begun, called, called_instance, call_registers, instance_registers, flows, runs, turn_of, request_of, read_of, write_of, stop_request}
 use Rattle.mc_machine.specs.Stands.{Config, Follows, AsksAt, IsAsked, IsAskedAt, IsTurned, halts_with, IsHigh, AreStacked, AreBegun, IsSound}
 use Rattle.level_stack.specs.Levels.{LevelState, ended, block_counts}
 use Rattle.mc_machine.proofs.Begun.{no_level, one_less, main_over, same_begun}
@@ -43,6 +48,26 @@ asked_instance program next level memory callee number r (Some code) None e = as
 asked_instance program next level memory callee number r (Some code) (Some size) e =
     asked_begun next level memory (instance_registers memory.registers number) callee r (block_entered memory callee code) e
 
+-- a direct access is of 1, 2 or 4 bytes, in which the value that T writes lies
+bytes_width : (width : Width) → IsWidth (bytes_in width)
+bytes_width widths.Byte = inl refl
+bytes_width widths.Word = inr (inl refl)
+bytes_width widths.Double = inr (inr refl)
+
+cut : (value : ℕ) (width : Width) → value % 2 ^ (8 * bytes_in width) < 2 ^ (8 * bytes_in width)
+cut value widths.Byte = omega arith
+cut value widths.Word = omega arith
+cut value widths.Double = omega arith
+
+asks_read : (block : BlockRef) (at : ℕ) (level : Level) (mode : Mode) (access : Access) (prio : ℕ) (r : Request) → request_of (read_of access) prio ≡ r → IsAskedAt (At block at level mode) r.ask
+asks_read block at level mode access prio r q =
+    subst (λ (r : Request). IsAskedAt (At block at level mode) r.ask) q ((block, at, level, mode, refl), bytes_width access.width)
+
+asks_write : (block : BlockRef) (at : ℕ) (level : Level) (mode : Mode) (access : Access) (memory : Memory) (prio : ℕ) (r : Request) → request_of (write_of access memory) prio ≡ r → IsAskedAt (At block at level mode) r.ask
+asks_write block at level mode access memory prio r q =
+    subst (λ (r : Request). IsAskedAt (At block at level mode) r.ask) q
+    ((block, at, level, mode, refl), bytes_width access.width, cut (transferred memory) access.width)
+
 asked_flow : (program : Program) (block : BlockRef) (at : ℕ) (level : Level) (memory : Memory) (r : Request) (to : Flow) → flows program block at level memory to ≡ Asks r → IsAskedAt (At block at level Fresh) r.ask
 asked_flow program block at level memory r flow.Next e = absurd cc
 asked_flow program block at level memory r (flow.Jump target) e = absurd cc
@@ -58,6 +83,10 @@ asked_flow program block at level memory r flow.AskNow e =
     let q : request_of asks.Now (priority_in memory) ≡ r = cc in subst (λ (r : Request). IsAskedAt (At block at level Fresh) r.ask) q (block, at, level, Fresh, refl)
 asked_flow program block at level memory r flow.AskRetrigger e =
     let q : request_of asks.Retrigger (priority_in memory) ≡ r = cc in subst (λ (r : Request). IsAskedAt (At block at level Fresh) r.ask) q (block, at, level, Fresh, refl)
+asked_flow program block at level memory r (flow.AskRead access) e =
+    let q : request_of (read_of access) (priority_in memory) ≡ r = cc in asks_read block at level Fresh access (priority_in memory) r q
+asked_flow program block at level memory r (flow.AskWrite access) e =
+    let q : request_of (write_of access memory) (priority_in memory) ≡ r = cc in asks_write block at level Fresh access memory (priority_in memory) r q
 asked_flow program block at level memory r flow.Stop e = absurd cc
 
 asked_run : (program : Program) (block : BlockRef) (at : ℕ) (level : Level) (since : ℕ) (memory : Memory) (r : Request) (o : Option Statement) → runs program block at level since memory o ≡ Asks r → IsAskedAt (At block at level Fresh) r.ask
@@ -82,6 +111,10 @@ asked_at program since memory (At block at level Timing) r e =
     let q : request_of asks.Now (priority_in memory) ≡ r = cc in subst (λ (r : Request). IsAskedAt (At block at level Timing) r.ask) q (block, at, level, Timing, refl)
 asked_at program since memory (At block at level Retriggering) r e =
     let q : request_of asks.Retrigger (priority_in memory) ≡ r = cc in subst (λ (r : Request). IsAskedAt (At block at level Retriggering) r.ask) q (block, at, level, Retriggering, refl)
+asked_at program since memory (At block at level (Reading access)) r e =
+    let q : request_of (read_of access) (priority_in memory) ≡ r = cc in asks_read block at level (Reading access) access (priority_in memory) r q
+asked_at program since memory (At block at level (Writing access)) r e =
+    let q : request_of (write_of access memory) (priority_in memory) ≡ r = cc in asks_write block at level (Writing access) access memory (priority_in memory) r q
 
 pub is_asked : (p : Place) (ask : Ask) → IsAskedAt p ask → IsAsked ask
 is_asked p (asks.Outputs image) h = tt
@@ -90,8 +123,8 @@ is_asked p asks.Cycle h = tt
 is_asked p asks.Tick h = tt
 is_asked p asks.Now h = tt
 is_asked p (asks.Stop code) h = tt
-is_asked p (asks.ReadP addr width) h = absurd h
-is_asked p (asks.WriteP addr width value) h = absurd h
+is_asked p (asks.ReadP addr width) h = h.1
+is_asked p (asks.WriteP addr width value) h = (h.1, h.2)
 is_asked p asks.Retrigger h = tt
 is_asked p (asks.Reply value) h = tt
 
@@ -237,6 +270,8 @@ changed program c c' block at level memory o (flow.Fail error) u f =
     changed_failed c c' (At block (at + 1) level Fresh) level memory error o (error_entered program level memory error) f
 changed program c c' block at level memory o flow.AskNow u f = (f.0, f.1 ∙ ap (λ m. record c { memory = m }) (u refl))
 changed program c c' block at level memory o flow.AskRetrigger u f = (f.0, f.1 ∙ ap (λ m. record c { memory = m }) (u refl))
+changed program c c' block at level memory o (flow.AskRead access) u f = (f.0, f.1 ∙ ap (λ m. record c { memory = m }) (u refl))
+changed program c c' block at level memory o (flow.AskWrite access) u f = (f.0, f.1 ∙ ap (λ m. record c { memory = m }) (u refl))
 changed program c c' block at level memory o flow.Stop u f = f
 
 pub run_follows : (c c' : Config) (block : BlockRef) (at : ℕ) (level : Level) (decoded : Option Instruction) (memory : Memory) (to : Flow) (o : Option Request) → c.place ≡ At block at level Fresh → option_map instruction_of (slice_get (statements_of c.program block) at) ≡ Some decoded → c.since < 256 → effect_if decoded c.memory ≡ (memory, to) → (asks_first to ≡ true → memory ≡ c.memory) → Follows (flows c.program block at level memory to) (record c { memory = memory }) o c' → Follows (turn_of c.program c.since c.memory c.place) c o c'

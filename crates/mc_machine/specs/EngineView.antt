@@ -18,7 +18,7 @@ use Rattle.statement_effects.specs.declared.areas.Registers.{Registers}
 use Rattle.mc_machine.specs.declared.places.Returns.{Returns}
 use Rattle.mc_machine.specs.declared.places.Returns.TheVariants as returns
 use Rattle.mc_machine.specs.declared.places.Frame.{Frame as StoredFrame}
-use Rattle.mc_machine.specs.Places.{Level, Mode, Fresh, Ticking, Timing, Retriggering, Place, AtOutputs, AtInputs, AtCycle, AtReply, AtStop, Over, At, Kept, Whole, Brackets, Frame}
+use Rattle.mc_machine.specs.Places.{Level, Mode, Fresh, Ticking, Timing, Retriggering, Reading, Writing, Place, AtOutputs, AtInputs, AtCycle, AtReply, AtStop, Over, At, Kept, Whole, Brackets, Frame}
 use Rattle.mc_machine.specs.Stands.{Config, Running}
 
 abbrev pub level_in : StoredLevel → Level
@@ -29,6 +29,8 @@ mode_of modes.Fresh = Fresh
 mode_of modes.Ticking = Ticking
 mode_of modes.Timing = Timing
 mode_of modes.Retriggering = Retriggering
+mode_of (modes.Reading access) = Reading access
+mode_of (modes.Writing access) = Writing access
 
 abbrev pub place_of : Spot → Place
 place_of spots.AtOutputs = AtOutputs

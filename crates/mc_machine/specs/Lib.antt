@@ -2,6 +2,5 @@ pub mod BlockRuns
 pub mod EngineView
 pub mod Meaning
 pub mod Places
-pub mod Runnable
 pub mod Rung
 pub mod Stands

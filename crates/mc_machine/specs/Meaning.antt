@@ -30,12 +30,15 @@ use Rattle.statement_effects.specs.Levels.{priority_in, with_level, entered, wit
 use Rattle.statement_effects.specs.declared.areas.Registers.{Registers}
 use Rattle.mc_machine.specs.declared.places.Cause.{Cause}
 use Rattle.mc_machine.specs.declared.places.Cause.TheVariants.{CpuStarted, CycleBegan, StatementFailed, AlarmCame, BlockMissing}
-use Rattle.mc_machine.specs.Places.{Level, Mode, Fresh, Ticking, Timing, Retriggering, Place, AtOutputs, AtInputs, AtCycle, AtReply, AtStop, Over, At, Kept, Whole, Brackets, Frame}
+use Rattle.mc_machine.specs.Places.{Level, Mode, Fresh, Ticking, Timing, Retriggering, Reading, Writing, Place, AtOutputs, AtInputs, AtCycle, AtReply, AtStop, Over, At, Kept, Whole, Brackets, Frame}
 use Rattle.statement_effects.specs.declared.instruction.Instruction.{Instruction}
 use Rattle.statement_effects.specs.declared.instruction.Instruction.TheVariants.{Timed, Retrigger}
 use Rattle.statement_effects.specs.declared.instruction.Flow.{Flow}
 use Rattle.statement_effects.specs.declared.instruction.Flow.TheVariants as flow
-use Rattle.statement_effects.specs.Areas.{clear_registers, with_registers, with_status, data_length, start_memory}
+use Rattle.statement_effects.specs.declared.instruction.Access.{Access}
+use Rattle.statement_effects.specs.AccessEffect.{access_in, value_put, put_out}
+use Rattle.statement_effects.specs.MoveEffect.{with_loaded}
+use Rattle.statement_effects.specs.Areas.{bytes_in, clear_registers, with_registers, with_status, data_length, start_memory}
 use Rattle.statement_effects.specs.Reading.{instruction_of}
 use Rattle.statement_effects.specs.TimerEffect.{effect_timed}
 use Rattle.statement_effects.specs.Effect.{effect_of}
@@ -257,6 +260,14 @@ calls_instance program next level memory callee number =
 
 -- the statements --
 
+-- the request of a direct access: to read
+abbrev pub read_of : Access → Ask
+read_of access = asks.ReadP access.addr (bytes_in access.width)
+
+-- to write the value that T writes
+abbrev pub write_of : Access → Memory → Ask
+write_of access memory = asks.WriteP access.addr (bytes_in access.width) (value_put memory access.width)
+
 -- where a statement leads
 abbrev pub flows : Program → BlockRef → ℕ → Level → Memory → Flow → Turn
 flows program block at level memory flow.Next = Moves None (Goes memory (At block (at + 1) level Fresh))
@@ -268,6 +279,8 @@ flows program block at level memory flow.End = Moves None (Goes memory (At block
 flows program block at level memory (flow.Fail error) = fails program (At block (at + 1) level Fresh) level memory error
 flows program block at level memory flow.AskNow = Asks (request_of asks.Now (priority_in memory))
 flows program block at level memory flow.AskRetrigger = Asks (request_of asks.Retrigger (priority_in memory))
+flows program block at level memory (flow.AskRead access) = Asks (request_of (read_of access) (priority_in memory))
+flows program block at level memory (flow.AskWrite access) = Asks (request_of (write_of access memory) (priority_in memory))
 flows program block at level memory flow.Stop = Halts None memory stops.Sfc46
 
 -- the statement at a place, unless 256 statements were completed since the last answer; after the last the block ends
@@ -290,6 +303,8 @@ turn_of program since memory (At block at level Fresh) = runs program block at l
 turn_of program since memory (At block at level Ticking) = Asks (request_of asks.Tick (priority_in memory))
 turn_of program since memory (At block at level Timing) = Asks (request_of asks.Now (priority_in memory))
 turn_of program since memory (At block at level Retriggering) = Asks (request_of asks.Retrigger (priority_in memory))
+turn_of program since memory (At block at level (Reading access)) = Asks (request_of (read_of access) (priority_in memory))
+turn_of program since memory (At block at level (Writing access)) = Asks (request_of (write_of access memory) (priority_in memory))
 
 -- the answers --
 
@@ -305,6 +320,8 @@ abbrev pub again_mode : Ask → Mode → Mode
 again_mode asks.Tick mode = Ticking
 again_mode asks.Now mode = Timing
 again_mode asks.Retrigger mode = Retriggering
+again_mode (asks.ReadP addr width) mode = Reading (access_in addr width)
+again_mode (asks.WriteP addr width value) mode = Writing (access_in addr width)
 again_mode _ mode = mode
 
 -- a request that is not ended is made again as it is
@@ -351,14 +368,14 @@ begins_main program memory image =
     let before : Memory = with_registers (with_inputs memory image) clear_registers in
     main_begun before (main_entered program before)
 
--- a statement that asked for the moment is completed by it, or fails
-abbrev pub timed_outcome : Program → BlockRef → ℕ → Level → Memory → Result Memory ℕ → Turn
-timed_outcome program block at level memory (Ok after) = Moves None (Goes after (At block (at + 1) level Fresh))
-timed_outcome program block at level memory (Err error) = fails program (At block (at + 1) level Fresh) level memory error
+-- a statement that asked is completed by the answer, or fails
+abbrev pub asked_outcome : Program → BlockRef → ℕ → Level → Memory → Result Memory ℕ → Turn
+asked_outcome program block at level memory (Ok after) = Moves None (Goes after (At block (at + 1) level Fresh))
+asked_outcome program block at level memory (Err error) = fails program (At block (at + 1) level Fresh) level memory error
 
 abbrev pub timed_by : Program → BlockRef → ℕ → Level → Mode → Memory → ℕ → Option Instruction → Reaction
 timed_by program block at level mode memory moment (Some (Timed op n)) =
-    Completes (timed_outcome program block at level memory (effect_timed op n moment memory))
+    Completes (asked_outcome program block at level memory (effect_timed op n moment memory))
 timed_by program block at level mode memory moment _ = Again None (Goes memory (At block at level mode))
 
 -- the instruction of a place
@@ -394,6 +411,21 @@ retriggered_at program memory AtCycle = Again None (Goes memory AtCycle)
 retriggered_at program memory (AtReply value) = Again None (Goes memory (AtReply value))
 retriggered_at program memory (AtStop code) = Again None (Goes memory (AtStop code))
 retriggered_at program memory Over = Again None (Goes memory Over)
+
+-- a statement that asked for a direct access is completed by what the answer gives, or fails
+abbrev pub accessed_by : Program → BlockRef → ℕ → Level → Mode → Memory → Result Memory ℕ → Option Instruction → Reaction
+accessed_by program block at level mode memory outcome (Some instruction) = Completes (asked_outcome program block at level memory outcome)
+accessed_by program block at level mode memory outcome None = Again None (Goes memory (At block at level mode))
+
+-- a direct access is answered
+abbrev pub accessed_at : Program → Memory → Place → Result Memory ℕ → Reaction
+accessed_at program memory (At block at level mode) outcome = accessed_by program block at level mode memory outcome (instruction_at program block at)
+accessed_at program memory AtOutputs outcome = Again None (Goes memory AtOutputs)
+accessed_at program memory AtInputs outcome = Again None (Goes memory AtInputs)
+accessed_at program memory AtCycle outcome = Again None (Goes memory AtCycle)
+accessed_at program memory (AtReply value) outcome = Again None (Goes memory (AtReply value))
+accessed_at program memory (AtStop code) outcome = Again None (Goes memory (AtStop code))
+accessed_at program memory Over outcome = Again None (Goes memory Over)
 
 -- alarms --
 
@@ -479,6 +511,10 @@ answered program memory place asks.Cycle (answers.Job job) = Again None (Goes (j
 answered program memory place asks.Tick answers.Done = Again None (Goes memory (resumed place))
 answered program memory place asks.Now (answers.Now moment) = timed_at program memory place moment
 answered program memory place asks.Retrigger answers.Done = retriggered_at program memory place
+answered program memory place (asks.ReadP addr width) (answers.Value value) = accessed_at program memory place (Ok (with_loaded memory value))
+answered program memory place (asks.ReadP addr width) answers.NoModule = accessed_at program memory place (Err 9)
+answered program memory place (asks.WriteP addr width value) answers.Done = accessed_at program memory place (Ok (put_out memory addr width value))
+answered program memory place (asks.WriteP addr width value) answers.NoModule = accessed_at program memory place (Err 9)
 answered program memory place (asks.Reply value) answers.Done = Again None (Goes memory AtCycle)
 answered program memory place (asks.Stop code) answers.Done = Again (Some (notes.Stop code)) (Goes memory Over)
 answered program memory place _ _ = Again None (Goes memory place)

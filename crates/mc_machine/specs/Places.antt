@@ -3,6 +3,7 @@ use Rattle.std.specs.Prelude.{ℕ, Bool, Option}
 use Rattle.s7_base.specs.declared.blocks.BlockRef.{BlockRef}
 use Rattle.s7_events.specs.declared.entry.StopCode.{StopCode}
 use Rattle.bit_unit.specs.State.{BitState}
+use Rattle.statement_effects.specs.declared.instruction.Access.{Access}
 use Rattle.statement_effects.specs.declared.areas.DataRegisters.{DataRegisters}
 use Rattle.statement_effects.specs.declared.areas.Registers.{Registers}
 
@@ -16,6 +17,8 @@ pub data Mode : Type 0 where
   Ticking : Mode
   Timing : Mode
   Retriggering : Mode
+  Reading : (access : Access) → Mode
+  Writing : (access : Access) → Mode
 
 -- at the start of a cycle, where the CPU asks to put out the output image; where it asks for the input image; at the end
 -- of a cycle; where it hands on what a job read, or that its bytes are not there; where it asks to stop; where it has stopped;

@@ -1,5 +1,5 @@
 -- What it means that a machine stands for a program and the answers that it has taken.
-use Rattle.std.specs.Prelude.{◌≡◌, ◌≢◌, ℕ, suc, ◌+◌, ◌-◌, ◌*◌, ◌<◌, false, List, [], ◌∷◌, ◌++◌, length, drop, Option, Some, None, IfSome, IsTrue, is_some, nat_lt, ◌==◌, ◌≤◌, if◌then◌else◌, slice_get, flat_map, replicate}
+use Rattle.std.specs.Prelude.{◌≡◌, ◌≢◌, ℕ, suc, ◌+◌, ◌-◌, ◌*◌, ◌^◌, ◌<◌, false, List, [], ◌∷◌, ◌++◌, length, drop, Option, Some, None, IfSome, IsTrue, is_some, nat_lt, ◌==◌, ◌≤◌, if◌then◌else◌, slice_get, flat_map, replicate}
 use Rattle.std.specs.Int.{bytes_high_first}
 use Rattle.s7_events.specs.declared.entry.Ask.{Ask}
 use Rattle.s7_events.specs.declared.entry.Ask.TheVariants as asks
@@ -17,6 +17,7 @@ use Rattle.level_stack.specs.Levels.{LevelState}
 use Rattle.cpu_image.specs.declared.area.ByteArea.TheVariants as byte_areas
 use Rattle.cpu_image.specs.Image as image
 use Rattle.cpu_image.specs.Pages as image_pages
+use Rattle.cpu_image.specs.Values.{IsWidth}
 use Rattle.statement_effects.specs.State.{Memory}
 use Rattle.statement_effects.specs.Levels.{priority_in, with_start}
 use Rattle.mc_machine.specs.Places.{Level, Mode, Place, AtOutputs, AtInputs, AtCycle, AtReply, AtStop, Over, At, Fresh, Frame}
@@ -173,27 +174,31 @@ MayInterrupt memory _ = Unit {0}
 abbrev pub AsksAt : Config → Request → Type 0
 AsksAt c request = turn_of c.program c.since c.memory c.place ≡ Asks request
 
--- at which places a request is asked
+-- the place is at a statement of a block
+abbrev pub IsInBlock : Place → Type 0
+IsInBlock place = (block : BlockRef) × (at : ℕ) × (level : Level) × (mode : Mode) × (place ≡ At block at level mode)
+
+-- at which places a request is asked: a direct access is of 1, 2 or 4 bytes, in which a value that it writes lies
 abbrev pub IsAskedAt : Place → Ask → Type 0
 IsAskedAt place (asks.Outputs image) = place ≡ AtOutputs
 IsAskedAt place asks.Inputs = place ≡ AtInputs
 IsAskedAt place asks.Cycle = place ≡ AtCycle
-IsAskedAt place asks.Tick = (block : BlockRef) × (at : ℕ) × (level : Level) × (mode : Mode) × (place ≡ At block at level mode)
-IsAskedAt place (asks.ReadP addr width) = ⊥
-IsAskedAt place (asks.WriteP addr width value) = ⊥
-IsAskedAt place asks.Now = (block : BlockRef) × (at : ℕ) × (level : Level) × (mode : Mode) × (place ≡ At block at level mode)
-IsAskedAt place asks.Retrigger = (block : BlockRef) × (at : ℕ) × (level : Level) × (mode : Mode) × (place ≡ At block at level mode)
+IsAskedAt place asks.Tick = IsInBlock place
+IsAskedAt place (asks.ReadP addr width) = IsInBlock place × IsWidth width
+IsAskedAt place (asks.WriteP addr width value) = IsInBlock place × IsWidth width × (value < 2 ^ (8 * width))
+IsAskedAt place asks.Now = IsInBlock place
+IsAskedAt place asks.Retrigger = IsInBlock place
 IsAskedAt place (asks.Reply value) = place ≡ AtReply value
 IsAskedAt place (asks.Stop code) = place ≡ AtStop code
 
--- what is asked so far; direct access is not
+-- what a machine asks: a direct access is of 1, 2 or 4 bytes, in which a value that it writes lies
 abbrev pub IsAsked : Ask → Type 0
 IsAsked (asks.Outputs image) = Unit {0}
 IsAsked asks.Inputs = Unit {0}
 IsAsked asks.Cycle = Unit {0}
 IsAsked asks.Tick = Unit {0}
-IsAsked (asks.ReadP addr width) = ⊥
-IsAsked (asks.WriteP addr width value) = ⊥
+IsAsked (asks.ReadP addr width) = IsWidth width
+IsAsked (asks.WriteP addr width value) = IsWidth width × (value < 2 ^ (8 * width))
 IsAsked asks.Now = Unit {0}
 IsAsked asks.Retrigger = Unit {0}
 IsAsked (asks.Reply value) = Unit {0}

@@ -4,7 +4,6 @@ ghost use Rattle.timers.specs.Bytes as timer_form;
 ghost use Rattle.counters.specs.Bytes as counter_form;
 ghost use Rattle.std.specs.Option.{option_map};
 ghost use Rattle.s7_base.specs.Blocks.{Program};
-ghost use Rattle.mc_machine.specs.Runnable.{IsRunnable};
 ghost use Rattle.mc_machine.specs.EngineView.{config_of};
 ghost use Rattle.mc_machine.specs.Stands.{IsIdle, IsRunning, CanAsk, CanTake, IsDated, CanGoOn, IsAsked, HasStopped, WaitsAt, Stands, CpuWaits, CpuStopped, area_bytes, OfRunning, HasSizes, byte_of, block_length_of, counter_of, notes_of};
 
@@ -46,8 +45,6 @@ impl Machine {
     /// Runs from the start of the CPU. At `Err` it is idle still.
     pub fn load(&mut self, alloc: Global, blocks: &Blocks) -> Result<(), NoMemory>
         requires idle { IsIdle self.old }
-        // each statement of the program is one that the machine supports
-        requires runnable { IsRunnable blocks.now }
         ensures ok { OnOk result (Stands blocks.now [] self.new) }
         ensures going { OnOk result (CanAsk self.new) }
         ensures err { OnErr result (self.new ≡ self.old) }

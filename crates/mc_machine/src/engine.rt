@@ -12,6 +12,7 @@ ghost use Rattle.mc_machine.specs.Places.{AtInputs, AtStop, Over, At, Fresh};
 ghost use Rattle.mc_machine.specs.EngineView.{level_in, mode_of, place_of, config_of, running_of, decoded_codes, gone_to, IsCode, IsIndexed, IsStored};
 ghost use Rattle.s7_events.specs.declared.entry.Ask.{Ask};
 
+mod access;
 mod alarms;
 mod calls;
 mod jobs;
@@ -24,7 +25,7 @@ use crate::places::{BlockSpot, Cause, Frame, Level, Mode, Returns, Spot};
 use arrayvec::ArrayVec;
 use diag_buffer::Diag;
 use s7_base::{Answer, Ask, Blocks, DiagCode, Loss, Request, Side, StopCode};
-use statement_effects::{DecodedBlock, Flow, Instruction, Memory, Registers};
+use statement_effects::{Access, DecodedBlock, Flow, Instruction, Memory, Registers};
 
 /// How many frames there are at most: one for each of the 24 blocks of 21 levels.
 const FRAMES: usize = 504;
@@ -127,6 +128,8 @@ fn again_mode(ask: &Ask, mode: Mode) -> Mode
         Ask::Tick => Mode::Ticking,
         Ask::Now => Mode::Timing,
         Ask::Retrigger => Mode::Retriggering,
+        Ask::ReadP { addr, width } => Mode::Reading(Access::of(*addr, *width)),
+        Ask::WriteP { addr, width, .. } => Mode::Writing(Access::of(*addr, *width)),
         _ => mode,
     }
 }
@@ -348,6 +351,11 @@ impl Engine {
             (Ask::Tick, Answer::Done) => self.resume_block(),
             (Ask::Now, Answer::Now(moment)) => self.time(*moment),
             (Ask::Retrigger, Answer::Done) => self.retrigger(),
+            (Ask::ReadP { .. }, Answer::Value(value)) => self.complete_read(*value),
+            (Ask::WriteP { addr, width, value }, Answer::Done) => {
+                self.complete_write(addr, width, value);
+            }
+            (Ask::ReadP { .. } | Ask::WriteP { .. }, Answer::NoModule) => self.fail_access(),
             (Ask::Stop(code), Answer::Done) => self.end(code),
             _ => {}
         }
@@ -545,6 +553,8 @@ impl Engine {
             Mode::Timing => self.wait_in_block(Ask::Now),
             Mode::Ticking => self.wait_in_block(Ask::Tick),
             Mode::Retriggering => self.wait_in_block(Ask::Retrigger),
+            Mode::Reading(access) => self.wait_to_read(access),
+            Mode::Writing(access) => self.wait_to_write(access),
             Mode::Fresh => self.run(spot),
         }
     }
@@ -610,6 +620,8 @@ impl Engine {
             Flow::Fail(error) => return self.fail_statement(error, spot),
             Flow::AskNow => return self.wait_in_block(Ask::Now),
             Flow::AskRetrigger => return self.wait_in_block(Ask::Retrigger),
+            Flow::AskRead(access) => return self.wait_to_read(access),
+            Flow::AskWrite(access) => return self.wait_to_write(access),
             Flow::Stop => return self.halt(StopCode::Sfc46),
         };
         self.go_to(next);

@@ -8,9 +8,7 @@ mod index;
 mod laws;
 mod levels;
 mod places;
-mod runnable;
 
 pub use cpu::Machine;
 pub use laws::{a_block_runs_by_itself, a_place_means_its_turn};
-pub use runnable::is_runnable;
 pub use statement_effects::{Memory, Registers};

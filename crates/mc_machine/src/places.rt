@@ -1,7 +1,7 @@
 //! Where a machine stands, as it is stored.
 
 use s7_base::{BlockRef, StopCode};
-use statement_effects::Registers;
+use statement_effects::{Access, Registers};
 
 /// The level that a block runs on: whether one of the blocks that have begun on it is an error OB.
 #[derive(Clone, Copy, Debug)]
@@ -16,6 +16,10 @@ pub enum Mode {
     Ticking,
     Timing,
     Retriggering,
+    /// It asks for a value of the peripheral inputs.
+    Reading(Access),
+    /// It asks to write a value to the peripheral outputs.
+    Writing(Access),
 }
 
 /// A place in a block: the block, its index among the code blocks, the statement, counted from 0, and how the block

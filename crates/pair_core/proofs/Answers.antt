@@ -1,5 +1,5 @@
 -- The lawful answer: of which kind it is, and when it stops the CPU.
-use Rattle.std.proofs.Common.{◌≡◌, ◌∙◌, ℕ, Bool, true, false, ◌&&◌, Option, Some, None, refl, ap, sym, subst, inl, inr}
+use Rattle.std.proofs.Common.{◌≡◌, ◌∙◌, ℕ, Bool, true, false, ◌&&◌, List, Option, Some, None, refl, ap, sym, subst, inl, inr}
 use Rattle.std.specs.Prelude.{if◌then◌else◌, ◌⊎◌}
 use Rattle.std.proofs.lemmas.Bool.{eq-eqb}
 use Rattle.s7_events.specs.declared.entry.Side.{Side}
@@ -13,8 +13,7 @@ use Rattle.s7_events.specs.declared.entry.Job.{Job}
 use Rattle.s7_events.specs.declared.entry.Answer.{Answer}
 use Rattle.s7_events.specs.declared.entry.Answer.TheVariants as answers
 use Rattle.mc_machine.specs.Meaning.{is_dated, stops_cpu}
-use Rattle.plant_script.specs.Plan.{Plan}
-use Rattle.plant_script.specs.InputImage.{input_image}
+use Rattle.plant_io.specs.Inputs.{input_image, input_read, takes_output}
 use Rattle.alarm_queue.specs.Waiting.{first_above}
 use Rattle.pair_core.specs.declared.standing.Standing.{Standing}
 use Rattle.pair_core.specs.Setup.{Setup}
@@ -23,6 +22,7 @@ use Rattle.pair_core.specs.Sides.{other_side, runs, after_answer}
 use Rattle.pair_core.specs.Cuts.{is_cut}
 use Rattle.pair_core.specs.Stops.{stop_by}
 use Rattle.pair_core.specs.Losses.{loses_by}
+use Rattle.pair_core.specs.PlantInputs.{answer_read, answer_written}
 use Rattle.pair_core.specs.Monitor.{is_overdue}
 use Rattle.pair_core.specs.Lawful.{plain_answer, alarm_or, job_or, job_for, calm_answer, going_answer, falls, answer_at, MayAnswer}
 
@@ -38,17 +38,17 @@ IfJob P p g request = (j : Job) → first_above request.prio g.waiting ≡ None 
 
 -- of the plain answer, where no alarm goes first
 abbrev pub IfPlain : (Answer → Type 0) → Setup → Ledger → Request → Type 0
-IfPlain P p g request = (a : Answer) → first_above request.prio g.waiting ≡ None → plain_answer p.plan g.moment request.ask ≡ Some a → P a
+IfPlain P p g request = (a : Answer) → first_above request.prio g.waiting ≡ None → plain_answer p g request.ask ≡ Some a → P a
 
-calm_by : (P : Answer → Type 0) (plan : Plan) (k : ℕ) (ask : Ask) (answer : Answer) (o : Option Job) → job_or o (plain_answer plan k ask) ≡ Some answer
-    → ((j : Job) → o ≡ Some j → P (answers.Job j)) → ((a : Answer) → plain_answer plan k ask ≡ Some a → P a) → P answer
-calm_by P plan k ask answer None is job plain = plain answer is
-calm_by P plan k ask answer (Some j) is job plain = let same : answers.Job j ≡ answer = cc in subst P same (job j refl)
+calm_by : (P : Answer → Type 0) (p : Setup) (g : Ledger) (ask : Ask) (answer : Answer) (o : Option Job) → job_or o (plain_answer p g ask) ≡ Some answer
+    → ((j : Job) → o ≡ Some j → P (answers.Job j)) → ((a : Answer) → plain_answer p g ask ≡ Some a → P a) → P answer
+calm_by P p g ask answer None is job plain = plain answer is
+calm_by P p g ask answer (Some j) is job plain = let same : answers.Job j ≡ answer = cc in subst P same (job j refl)
 
 alarm_by : (P : Answer → Type 0) (p : Setup) (g : Ledger) (ask : Ask) (answer : Answer) (o : Option (ℕ × ℕ)) → alarm_or o (calm_answer p g ask) ≡ Some answer
     → ((x : ℕ × ℕ) → o ≡ Some x → P (answers.Alarm x.0 x.1)) → ((j : Job) → o ≡ None → job_for p g ask ≡ Some j → P (answers.Job j))
-    → ((a : Answer) → o ≡ None → plain_answer p.plan g.moment ask ≡ Some a → P a) → P answer
-alarm_by P p g ask answer None is alarm job plain = calm_by P p.plan g.moment ask answer (job_for p g ask) is (λ j. job j refl) (λ a. plain a refl)
+    → ((a : Answer) → o ≡ None → plain_answer p g ask ≡ Some a → P a) → P answer
+alarm_by P p g ask answer None is alarm job plain = calm_by P p g ask answer (job_for p g ask) is (λ j. job j refl) (λ a. plain a refl)
 alarm_by P p g ask answer (Some x) is alarm job plain = let same : answers.Alarm x.0 x.1 ≡ answer = cc in subst P same (alarm x refl)
 
 going_by : (P : Answer → Type 0) (p : Setup) (g : Ledger) (request : Request) (answer : Answer) (overdue : Bool)
@@ -78,19 +78,36 @@ answer_any P p g request answer is lost stop alarm job plain = any_by P p g requ
 pub given : (P : Answer → Type 0) (x a : Answer) → Some x ≡ Some a → P x → P a
 given P x a is h = let same : x ≡ a = cc in subst P same h
 
--- a plain answer is Done, the input image, Go or the moment
-pub plain_any : (P : Answer → Type 0) (plan : Plan) (k : ℕ) (ask : Ask) (a : Answer) → plain_answer plan k ask ≡ Some a
-    → P answers.Done → P (answers.Image (input_image plan k)) → P answers.Go → P (answers.Now k) → P a
-plain_any P plan k (asks.Outputs image) a is done inputs go now = given P answers.Done a is done
-plain_any P plan k asks.Inputs a is done inputs go now = given P (answers.Image (input_image plan k)) a is inputs
-plain_any P plan k asks.Cycle a is done inputs go now = given P answers.Go a is go
-plain_any P plan k asks.Now a is done inputs go now = given P (answers.Now k) a is now
-plain_any P plan k asks.Tick a is done inputs go now = given P answers.Done a is done
-plain_any P plan k asks.Retrigger a is done inputs go now = given P answers.Done a is done
-plain_any P plan k (asks.Reply value) a is done inputs go now = given P answers.Done a is done
-plain_any P plan k (asks.Stop code) a is done inputs go now = given P answers.Done a is done
-plain_any P plan k (asks.ReadP addr width) a is done inputs go now = absurd cc
-plain_any P plan k (asks.WriteP addr width value) a is done inputs go now = absurd cc
+-- what is read by a direct access at the moment
+abbrev pub read_at : Setup → Ledger → ℕ → ℕ → Option ℕ
+read_at p g addr width = input_read p.plan g.standing.running.a g.standing.running.b g.inputs g.moment addr width
+
+abbrev pub image_at : Setup → Ledger → List ℕ
+image_at p g = input_image p.plan g.standing.running.a g.standing.running.b g.inputs g.moment
+
+read_any : (P : Answer → Type 0) (o : Option ℕ) (a : Answer) → Some (answer_read o) ≡ Some a → P answers.NoModule → ((value : ℕ) → o ≡ Some value → P (answers.Value value)) → P a
+read_any P None a is none read = given P answers.NoModule a is none
+read_any P (Some value) a is none read = given P (answers.Value value) a is (read value refl)
+
+written_any : (P : Answer → Type 0) (b : Bool) (a : Answer) → Some (answer_written b) ≡ Some a → P answers.NoModule → P answers.Done → P a
+written_any P true a is none done = given P answers.Done a is done
+written_any P false a is none done = given P answers.NoModule a is none
+
+-- a plain answer is Done, the input image, Go, the moment, that there is no module, or the value that is read
+pub plain_any : (P : Answer → Type 0) (p : Setup) (g : Ledger) (ask : Ask) (a : Answer) → plain_answer p g ask ≡ Some a
+    → P answers.Done → P (answers.Image (image_at p g)) → P answers.Go → P (answers.Now g.moment) → P answers.NoModule
+    → ((addr width value : ℕ) → read_at p g addr width ≡ Some value → P (answers.Value value)) → P a
+plain_any P p g (asks.Outputs image) a is done inputs go now none read = given P answers.Done a is done
+plain_any P p g asks.Inputs a is done inputs go now none read = given P (answers.Image (image_at p g)) a is inputs
+plain_any P p g asks.Cycle a is done inputs go now none read = given P answers.Go a is go
+plain_any P p g asks.Now a is done inputs go now none read = given P (answers.Now g.moment) a is now
+plain_any P p g asks.Tick a is done inputs go now none read = given P answers.Done a is done
+plain_any P p g asks.Retrigger a is done inputs go now none read = given P answers.Done a is done
+plain_any P p g (asks.Reply value) a is done inputs go now none read = given P answers.Done a is done
+plain_any P p g (asks.Stop code) a is done inputs go now none read = given P answers.Done a is done
+plain_any P p g (asks.ReadP addr width) a is done inputs go now none read = read_any P (read_at p g addr width) a is none (read addr width)
+plain_any P p g (asks.WriteP addr width value) a is done inputs go now none read =
+    written_any P (takes_output p.plan g.standing.running.a g.standing.running.b addr width) a is none done
 
 -- of which kind it is ------------------------------------------------------------
 
@@ -120,17 +137,18 @@ pub record IsCalm (p : Setup) (g : Ledger) (answer : Answer) : Type 0 where
 abbrev pub Kind : Setup → Ledger → Answer → Type 0
 Kind p g answer = ((t : Side) × IsLoss p g t answer) ⊎ IsCalm p g answer
 
-plain_leaves : (plan : Plan) (k : ℕ) (ask : Ask) (a : Answer) → plain_answer plan k ask ≡ Some a → LeavesStanding a
-plain_leaves plan k ask a is =
-    plain_any LeavesStanding plan k ask a is
+plain_leaves : (p : Setup) (g : Ledger) (ask : Ask) (a : Answer) → plain_answer p g ask ≡ Some a → LeavesStanding a
+plain_leaves p g ask a is =
+    plain_any LeavesStanding p g ask a is
     (record { same = λ st. refl; keeps = λ s. refl; stays = refl }) (record { same = λ st. refl; keeps = λ s. refl; stays = refl })
     (record { same = λ st. refl; keeps = λ s. refl; stays = refl }) (record { same = λ st. refl; keeps = λ s. refl; stays = refl })
+    (record { same = λ st. refl; keeps = λ s. refl; stays = refl }) (λ addr width value read. record { same = λ st. refl; keeps = λ s. refl; stays = refl })
 
 going_leaves : (p : Setup) (g : Ledger) (request : Request) (answer : Answer) → going_answer p g request ≡ Some answer → LeavesStanding answer
 going_leaves p g request answer is =
     going_any LeavesStanding p g request answer is (record { same = λ st. refl; keeps = λ s. refl; stays = refl })
     (λ x first. record { same = λ st. refl; keeps = λ s. refl; stays = refl }) (λ j none next. record { same = λ st. refl; keeps = λ s. refl; stays = refl })
-    (λ a none. plain_leaves p.plan g.moment request.ask a)
+    (λ a none. plain_leaves p g request.ask a)
 
 and_left : (x y : Bool) → (x && y) ≡ true → x ≡ true
 and_left true y h = refl
@@ -257,7 +275,7 @@ fresh_by p g answer s (inr c) master run uncut =
 pub lawful_dated : (p : Setup) (g : Ledger) (request : Request) (answer : Answer) → MayAnswer p g request answer → is_dated g.moment answer ≡ true
 lawful_dated p g request answer may =
     answer_any (λ a. is_dated g.moment a ≡ true) p g request answer may (λ t. refl) refl (λ x first. refl) (λ j none next. refl)
-    (λ a none is. plain_any (λ x. is_dated g.moment x ≡ true) p.plan g.moment request.ask a is refl refl refl (eq-eqb g.moment g.moment refl))
+    (λ a none is. plain_any (λ x. is_dated g.moment x ≡ true) p g request.ask a is refl refl refl (eq-eqb g.moment g.moment refl) refl (λ addr width value read. refl))
 
 -- the record and the CPU agree on what stops it
 pub not_stopping : (ask : Ask) (answer : Answer) → stop_by ask answer ≡ None → stops_cpu ask answer ≡ false

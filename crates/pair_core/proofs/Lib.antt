@@ -4,6 +4,7 @@ pub mod AnsweredOnce
 pub mod Answers
 pub mod Bounds
 pub mod Derived
+pub mod Discrepancies
 pub mod Fits
 pub mod Grows
 pub mod JobForms

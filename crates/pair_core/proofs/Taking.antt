@@ -29,7 +29,7 @@ use Rattle.pair_core.proofs.OwnParts.{own_longer, life_longer}
 use Rattle.pair_core.proofs.Snoc.{stop_is, moment_is, answers_snoc}
 use Rattle.pair_core.proofs.Answers.{lawful_dated, not_stopping}
 use Rattle.pair_core.proofs.Fits.{lawful_takes}
-use Rattle.pair_core.proofs.Waiting.{waiting_fit}
+use Rattle.pair_core.proofs.Waiting.{ledger_fine}
 
 -- an entry in the middle of a lawful record may stand there
 lawful_mid : (p : Setup) (g : Ledger) (front : List Entry) (e : Entry) (rest : List Entry) → LawfulFrom p g (front ++ e ∷ rest) → MayStand p (ledger_from p g front) e
@@ -72,7 +72,7 @@ met p l k e fine good here =
     let here_k : g.moment ≡ k = moment_is p front ∙ length-take-le k l.entries (let within = slice_get_within l.entries k e here in omega arith) in
     record {
       going = sym (stop_is p front) ∙ may.going;
-      fits = lawful_takes p g e.request e.answer fine (waiting_fit p front fine) may.answer;
+      fits = lawful_takes p g e.request e.answer fine (ledger_fine p front fine) may.answer;
       dated = subst (λ n. is_dated n e.answer ≡ true) here_k (lawful_dated p g e.request e.answer may.answer);
       asked = asked_mid p.program [] front e rest (subst (λ es. requests_of es ≡ asked_after p.program [] (answers_of es)) is good.same.requests);
     }

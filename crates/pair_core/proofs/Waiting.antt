@@ -1,6 +1,6 @@
 -- The alarms that wait stand in their order, and each is one that a request can be answered by.
-use Rattle.std.proofs.Common.{◌≡◌, ◌∙◌, ℕ, suc, ◌+◌, ◌^◌, ◌≤◌, ◌<◌, Bool, true, false, List, [], ◌∷◌, ◌++◌, length, refl, ap, sym, subst, arith, Option, Some, None}
-use Rattle.std.specs.Prelude.{if◌then◌else◌, ◌==◌, ◌&&◌, ◌||◌, not, nat_le, nat_lt, All, IsTrue, map, filter}
+use Rattle.std.proofs.Common.{◌≡◌, ◌∙◌, ℕ, zero, suc, ◌+◌, ◌^◌, ◌≤◌, ◌<◌, Bool, true, false, List, [], ◌∷◌, ◌++◌, length, refl, ap, sym, subst, arith, Option, Some, None}
+use Rattle.std.specs.Prelude.{if◌then◌else◌, ◌==◌, ◌&&◌, ◌||◌, not, nat_le, nat_lt, All, IsTrue, map, filter, replicate}
 use Rattle.std.specs.List.{filter_map, cons_option}
 use Rattle.std.proofs.lemmas.Bool.Decides.{nat_tests}
 use Rattle.std.proofs.lemmas.List.Elements.{All-cons, All-tail, All-append}
@@ -10,8 +10,12 @@ use Rattle.s7_events.specs.declared.entry.Answer.{Answer}
 use Rattle.s7_events.specs.declared.entry.Answer.TheVariants as answers
 use Rattle.s7_events.specs.declared.entry.Entry.{Entry}
 use Rattle.s7_base.specs.Blocks.{Program}
-use Rattle.plant_script.specs.Form.{IsWritten}
-use Rattle.plant_script.specs.Plan.{IsPlan}
+use Rattle.plant_script.specs.Form.{IsModule, IsWritten}
+use Rattle.plant_script.specs.Plan.{Plan, IsPlan}
+use Rattle.plant_script.specs.declared.plan.Module.{Module}
+use Rattle.plant_io.specs.PairValue.{PairState, fresh}
+use Rattle.plant_io.specs.Inputs.{is_due_at}
+use Rattle.plant_io.proofs.Bytes.{IsByte, AreBytes, step_small}
 use Rattle.plant_script.specs.declared.plan.Event.{Event}
 use Rattle.plant_script.specs.declared.plan.What.{What}
 use Rattle.plant_script.specs.declared.plan.What.TheVariants as events
@@ -24,7 +28,9 @@ use Rattle.alarm_queue.proofs.OrderLaws.{all_inserted, order_inserted, order_lef
 use Rattle.alarm_queue.proofs.DueLaws as due_laws
 use Rattle.pair_core.specs.Setup.{Setup}
 use Rattle.pair_core.specs.Monitor.{answers_overdue, ends_monitoring}
-use Rattle.pair_core.specs.Waits.{schedule, overdue_due, due_by_pair, waiting_at_first, waits_after}
+use Rattle.pair_core.specs.Sides.{first_standing, after_answer}
+use Rattle.pair_core.specs.PlantInputs.{readers, first_inputs, inputs_after}
+use Rattle.pair_core.specs.Waits.{schedule, overdue_due, discrepancy_at, discrepancy_due, due_by_pair, waiting_at_first, waits_after}
 use Rattle.pair_core.specs.Ledger.{Ledger, first_ledger, after, ledger_from, ledger}
 
 -- one after the other
@@ -110,7 +116,7 @@ line_of_what moment line (events.Alarm ob info) h = line_by ob moment line info 
 line_of_what moment line (events.Input at_byte side value) h = tt
 line_of_what moment line (events.Job job) h = tt
 line_of_what moment line (events.Fail side late) h = tt
-line_of_what moment line (events.Return side fresh) h = tt
+line_of_what moment line (events.Return side afresh) h = tt
 line_of_what moment line (events.Suspect side pass) h = tt
 
 more_fit : (o : Option DueAlarm) (rest : List DueAlarm) → IfFit o → All IsFit rest → All IsFit (cons_option o rest)
@@ -158,35 +164,84 @@ redundancy_each : (k : ℕ) (loaded : Bool) (o : Option ℕ) → IfSmall o → A
 redundancy_each k loaded None small = none_fit
 redundancy_each k loaded (Some info) small = one_fit (due_alarm 72 k Cpu info) loaded (record { block = refl; priority = refl; info = refl; small = small })
 
+address_small : (n : ℕ) → n ≤ 1024 → nat_le n 65535 ≡ true
+address_small n h = grind (arith, nat_tests)
+
+module_fits : (k : ℕ) (m : Module) → IsModule m → IsFit (discrepancy_at k m)
+module_fits k m form = record {
+  block = refl;
+  priority = refl;
+  info = address_small m.at_byte (omega (arith, form.within));
+  small = omega (arith, form.within);
+}
+
+modules_by : (k : ℕ) (m : Module) (rest : List Module) (b : Bool) → IsModule m → All IsFit (map (discrepancy_at k) rest) → All IsFit (map (discrepancy_at k) (if b then m ∷ rest else rest))
+modules_by k m rest true form h = All-cons IsFit (discrepancy_at k m) (map (discrepancy_at k) rest) (module_fits k m form) h
+modules_by k m rest false form h = h
+
+modules_each : (k : ℕ) (test : Module → Bool) (ms : List Module) → All IsModule ms → All IsFit (map (discrepancy_at k) (filter test ms))
+modules_each k test [] h = none_fit
+modules_each k test (m ∷ ms) h =
+    modules_by k m (filter test ms) (test m) (h 0 m (omega arith)) (modules_each k test ms (All-tail IsModule m ms h))
+
+discrepancy_each : (plan : Plan) (inputs : Module → PairState) (k : ℕ) → IsPlan plan → All IsFit (discrepancy_due plan inputs k)
+discrepancy_each plan inputs k fine = modules_each k (λ m. is_due_at m (inputs m)) plan.modules fine.modules.form
+
 -- and what the pair adds
-pair_each : (program : Program) (watch : Option ℕ) (k : ℕ) (a : Answer) → All IsFit (due_by_pair program watch k a)
+pair_each : (p : Setup) (watch : Option ℕ) (inputs : Module → PairState) (k : ℕ) (a : Answer) → IsPlan p.plan → All IsFit (due_by_pair p.program p.plan watch inputs k a)
 unfolding due_by_pair
-pair_each program watch k a =
-    All-append IsFit (overdue_due program watch k) (redundancy_by (is_loaded program 72) k (redundancy_info a))
-    (one_fit (due_alarm 80 k Cpu 0) (ends_monitoring watch k && answers_overdue program) (record { block = refl; priority = refl; info = refl; small = omega arith }))
-    (redundancy_each k (is_loaded program 72) (redundancy_info a) (small_info a))
+pair_each p watch inputs k a fine =
+    All-append IsFit (overdue_due p.program watch k) (discrepancy_due p.plan inputs k ++ redundancy_by (is_loaded p.program 72) k (redundancy_info a))
+    (one_fit (due_alarm 80 k Cpu 0) (ends_monitoring watch k && answers_overdue p.program) (record { block = refl; priority = refl; info = refl; small = omega arith }))
+    (All-append IsFit (discrepancy_due p.plan inputs k) (redundancy_by (is_loaded p.program 72) k (redundancy_info a))
+    (discrepancy_each p.plan inputs k fine)
+    (redundancy_each k (is_loaded p.program 72) (redundancy_info a) (small_info a)))
 
 -- over a record ---------------------------------------------------------------------
 
 no_alarm : AreFit []
 no_alarm = record { order = λ i j d lt less. absurd (omega arith); each = none_fit }
 
-pub first_fit : (p : Setup) → IsPlan p.plan → AreFit (waiting_at_first p)
-first_fit p fine = all_fit (due_at (schedule p) 0) [] (due_each p 0 fine) no_alarm
+pub first_fit : (p : Setup) → IsPlan p.plan → AreFit (first_ledger p).waiting
+first_fit p fine =
+    all_fit (discrepancy_due p.plan (first_inputs p.plan p.solo) 0) (add_all (due_at (schedule p) 0) []) (discrepancy_each p.plan (first_inputs p.plan p.solo) 0 fine)
+    (all_fit (due_at (schedule p) 0) [] (due_each p 0 fine) no_alarm)
 
-pub after_fit : (p : Setup) → IsPlan p.plan → (k : ℕ) (watch : Option ℕ) (a : Answer) (xs : List DueAlarm) → AreFit xs → AreFit (waits_after p k watch a xs)
+pub after_fit : (p : Setup) → IsPlan p.plan → (k : ℕ) (watch : Option ℕ) (inputs : Module → PairState) (a : Answer) (xs : List DueAlarm) → AreFit xs
+    → AreFit (waits_after p k watch inputs a xs)
 unfolding waits_after
-after_fit p fine k watch a xs h =
-    all_fit (due_by_pair p.program watch (k + 1) a) (add_all (due_at (schedule p) (k + 1)) (left_by a xs)) (pair_each p.program watch (k + 1) a)
+after_fit p fine k watch inputs a xs h =
+    all_fit (due_by_pair p.program p.plan watch inputs (k + 1) a) (add_all (due_at (schedule p) (k + 1)) (left_by a xs)) (pair_each p watch inputs (k + 1) a fine)
     (all_fit (due_at (schedule p) (k + 1)) (left_by a xs) (due_each p (k + 1) fine) (left_fit a xs h))
 
-waiting_from : (p : Setup) (g : Ledger) (es : List Entry) → IsPlan p.plan → AreFit g.waiting → AreFit (ledger_from p g es).waiting
-waiting_from p g [] fine h = h
-waiting_from p g (e ∷ es) fine h = waiting_from p (after p g e) es fine (after_fit p fine g.moment (after p g e).watch e.answer g.waiting h)
+-- the alarms that wait are such that may be answers, and the inputs are of bytes
+pub record IsFine (g : Ledger) : Type 0 where
+  pub waiting : AreFit g.waiting
+  pub inputs : AreBytes g.inputs
 
--- those that wait after any entries
-pub waiting_fit : (p : Setup) (es : List Entry) → IsPlan p.plan → AreFit (ledger p es).waiting
-waiting_fit p es fine = waiting_from p (first_ledger p) es fine (first_fit p fine)
+all_zero : (n : ℕ) → All IsByte (replicate n 0)
+all_zero zero = λ k d less. absurd (omega arith)
+all_zero (suc n) = All-cons IsByte 0 (replicate n 0) (omega arith) (all_zero n)
+
+pub first_fine : (p : Setup) → IsPlan p.plan → IsFine (first_ledger p)
+first_fine p fine = record {
+  waiting = first_fit p fine;
+  inputs = λ m. step_small p.plan m (readers (first_standing p.solo)) 0 fresh fine (all_zero 64);
+}
+
+pub after_fine : (p : Setup) → IsPlan p.plan → (g : Ledger) (e : Entry) → IsFine g → IsFine (after p g e)
+after_fine p fine g e h = record {
+  waiting = after_fit p fine g.moment (after p g e).watch (after p g e).inputs e.answer g.waiting h.waiting;
+  inputs = λ m. step_small p.plan m (readers (after_answer g.standing e.answer)) (g.moment + 1) (g.inputs m) fine (h.inputs m);
+}
+
+fine_from : (p : Setup) (g : Ledger) (es : List Entry) → IsPlan p.plan → IsFine g → IsFine (ledger_from p g es)
+fine_from p g [] fine h = h
+fine_from p g (e ∷ es) fine h = fine_from p (after p g e) es fine (after_fine p fine g e h)
+
+-- so they are after any entries
+pub ledger_fine : (p : Setup) (es : List Entry) → IsPlan p.plan → IsFine (ledger p es)
+ledger_fine p es fine = fine_from p (first_ledger p) es fine (first_fine p fine)
 
 -- the first of them ----------------------------------------------------------------
 

@@ -2,8 +2,8 @@
 use Rattle.std.specs.Prelude.{◌≡◌, ℕ, ◌+◌, ◌≤◌, ◌*◌, ◌<◌, true, List, length, None}
 use Rattle.s7_events.specs.declared.entry.Side.{Side}
 use Rattle.s7_events.specs.declared.entry.Entry.{Entry}
-use Rattle.plant_script.specs.Plan.{Plan, IsPlan}
-use Rattle.plant_script.specs.InputImage.{Image, IsImageOf}
+use Rattle.plant_script.specs.Plan.{IsPlan}
+use Rattle.plant_io.specs.Inputs.{InputsKept, AreStates}
 use Rattle.pair_core.specs.declared.turns.Act.{Act}
 use Rattle.pair_core.specs.declared.turns.Act.TheVariants.{Over, Dead, Take, Show, Mark, Unmarked, Behind, Append}
 use Rattle.pair_core.specs.declared.state.Derived.{Derived}
@@ -30,9 +30,10 @@ world_of s = record { log = log_of s; parts = s.parts; back = None }
 abbrev pub game_of : State → Game
 game_of s = record { setup = setup_of s; world = world_of s }
 
--- a running image in which no line later than the moments before k was applied
-abbrev pub IsImageBefore : Plan → ℕ → Image → Type 0
-IsImageBefore plan k image = (earlier : ℕ) × (earlier ≤ k) × IsImageOf plan earlier image
+-- the states of the modules are those of the record, after the moment that follows it
+pub record AreInputs (p : Setup) (es : List Entry) (kept : InputsKept) : Type 0 where
+  pub states : AreStates p.plan.modules (ledger p es).inputs kept.states
+  pub moment : kept.moment ≡ length es + 1
 
 -- the alarms that wait are those of the record, and OB72 may be added once for each entry that may still come
 pub record AreWaits (p : Setup) (es : List Entry) (kept : alarms.State) : Type 0 where
@@ -52,7 +53,7 @@ pub record IsDerived (p : Setup) (l : Log) (derived : Derived) : Type 0 where
   pub watch : derived.watch ≡ (ledger p l.entries).watch
   pub moment : (ledger p l.entries).moment ≡ length l.entries
   pub past : (side : Side) → of_side derived.past side ≡ shown_past l.shown side
-  pub image : IsImageBefore p.plan (length l.entries) derived.image
+  pub inputs : AreInputs p l.entries derived.inputs
   pub cuts : IsCutsAt p.plan (length l.entries) derived.cuts
   pub waits : AreWaits p l.entries derived.waiting
   pub jobs : AreJobs p l.entries derived.jobs

@@ -13,27 +13,29 @@ use Rattle.s7_events.specs.declared.entry.Answer.TheVariants as answers
 use Rattle.s7_events.specs.declared.entry.Entry.{Entry}
 use Rattle.s7_base.specs.Blocks.{Program}
 use Rattle.plant_script.specs.Plan.{Plan}
-use Rattle.plant_script.specs.InputImage.{input_image}
+use Rattle.plant_io.specs.Inputs.{input_image, input_read, takes_output}
 use Rattle.alarm_queue.specs.Waiting.{first_above}
 use Rattle.pair_core.specs.Cuts.{is_cut}
 use Rattle.pair_core.specs.Setup.{Setup, made_for}
 use Rattle.pair_core.specs.Ledger.{Ledger, first_ledger, after}
+use Rattle.pair_core.specs.PlantInputs.{answer_read, answer_written}
 use Rattle.pair_core.specs.Monitor.{is_overdue}
 use Rattle.pair_core.specs.Jobs.{jobs_of, next_job}
 
--- The answer to a request that nothing prevents, at a moment: the input image is that of the plant, and all else is done.
--- Direct access is not supported yet, so no answer to it is lawful.
-abbrev pub plain_answer : Plan → ℕ → Ask → Option Answer
-plain_answer plan k (asks.Outputs image) = Some answers.Done
-plain_answer plan k asks.Inputs = Some (answers.Image (input_image plan k))
-plain_answer plan k asks.Cycle = Some answers.Go
-plain_answer plan k asks.Now = Some (answers.Now k)
-plain_answer plan k asks.Tick = Some answers.Done
-plain_answer plan k asks.Retrigger = Some answers.Done
-plain_answer plan k (asks.Reply value) = Some answers.Done
-plain_answer plan k (asks.Stop code) = Some answers.Done
-plain_answer plan k (asks.ReadP addr width) = None
-plain_answer plan k (asks.WriteP addr width value) = None
+-- The answer to a request that nothing prevents: the input image is that of the plant, with the sides that run before the entry, and
+-- so is what a direct access reads; it is refused where no single module that is reached has all its bytes; and all else is done.
+abbrev pub plain_answer : Setup → Ledger → Ask → Option Answer
+plain_answer p g (asks.Outputs image) = Some answers.Done
+plain_answer p g asks.Inputs = Some (answers.Image (input_image p.plan g.standing.running.a g.standing.running.b g.inputs g.moment))
+plain_answer p g asks.Cycle = Some answers.Go
+plain_answer p g asks.Now = Some (answers.Now g.moment)
+plain_answer p g asks.Tick = Some answers.Done
+plain_answer p g asks.Retrigger = Some answers.Done
+plain_answer p g (asks.Reply value) = Some answers.Done
+plain_answer p g (asks.Stop code) = Some answers.Done
+plain_answer p g (asks.ReadP addr width) =
+    Some (answer_read (input_read p.plan g.standing.running.a g.standing.running.b g.inputs g.moment addr width))
+plain_answer p g (asks.WriteP addr width value) = Some (answer_written (takes_output p.plan g.standing.running.a g.standing.running.b addr width))
 
 -- the alarm, by the number of its block and its start information, or else this
 abbrev pub alarm_or : Option (ℕ × ℕ) → Option Answer → Option Answer
@@ -52,7 +54,7 @@ job_for p g ask = None
 
 -- the answer where no alarm goes first: the next job that is due, where the next cycle may start; else the plain answer
 abbrev pub calm_answer : Setup → Ledger → Ask → Option Answer
-calm_answer p g ask = job_or (job_for p g ask) (plain_answer p.plan g.moment ask)
+calm_answer p g ask = job_or (job_for p g ask) (plain_answer p g ask)
 
 -- The answer where no side is lost, by the first rule that applies: a cycle that takes too long stops the CPU; the first alarm
 -- that waits, where its priority is above the request's; a job; the plain answer.

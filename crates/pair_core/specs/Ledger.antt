@@ -8,12 +8,15 @@ use Rattle.pair_core.specs.Setup.{Setup}
 use Rattle.pair_core.specs.Sides.{first_standing, after_answer}
 use Rattle.pair_core.specs.Stops.{stop_by}
 use Rattle.pair_core.specs.Monitor.{watch_by}
+use Rattle.plant_script.specs.declared.plan.Module.{Module}
+use Rattle.plant_io.specs.PairValue.{PairState}
+use Rattle.pair_core.specs.PlantInputs.{first_inputs, inputs_after}
 use Rattle.pair_core.specs.Waits.{waiting_at_first, waits_after}
 use Rattle.pair_core.specs.Jobs.{jobs_by}
 
 -- Who runs after the entries of a record and which side is master; the code with which the last entry stops the CPU; from which
 -- moment the cycle is monitored, if it is; the alarms that wait, in the order in which they are answered; how many jobs were
--- answered; and the moment, which is the number of the entries.
+-- answered; the moment, which is the number of the entries; and the state of each REDUNDANT module of inputs after this moment.
 pub record Ledger : Type 0 where
   pub standing : Standing
   pub stop : Option StopCode
@@ -21,6 +24,7 @@ pub record Ledger : Type 0 where
   pub waiting : List DueAlarm
   pub jobs : ℕ
   pub moment : ℕ
+  pub inputs : Module → PairState
 
 -- before any entry
 abbrev pub first_ledger : Setup → Ledger
@@ -28,9 +32,10 @@ first_ledger p = record {
   standing = first_standing p.solo;
   stop = None;
   watch = None;
-  waiting = waiting_at_first p;
+  waiting = waiting_at_first p (first_inputs p.plan p.solo);
   jobs = 0;
   moment = 0;
+  inputs = first_inputs p.plan p.solo;
 }
 
 -- what one more entry makes of it
@@ -39,9 +44,11 @@ after p g e = record {
   standing = after_answer g.standing e.answer;
   stop = stop_by e.request.ask e.answer;
   watch = watch_by g.watch g.moment e.request.ask e.answer;
-  waiting = waits_after p g.moment (watch_by g.watch g.moment e.request.ask e.answer) e.answer g.waiting;
+  waiting =
+      waits_after p g.moment (watch_by g.watch g.moment e.request.ask e.answer) (inputs_after p.plan g.standing g.moment e.answer g.inputs) e.answer g.waiting;
   jobs = jobs_by e.answer g.jobs;
   moment = g.moment + 1;
+  inputs = inputs_after p.plan g.standing g.moment e.answer g.inputs;
 }
 
 abbrev pub ledger_from : Setup → Ledger → List Entry → Ledger

@@ -14,6 +14,7 @@ pub mod Monitor
 pub mod OneRecord
 pub mod OwnParts
 pub mod Places
+pub mod PlantInputs
 pub mod Played
 pub mod Progress
 pub mod Returns

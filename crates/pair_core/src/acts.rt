@@ -1,6 +1,5 @@
 //! What a visit does.
 ghost use Rattle.std.specs.Prelude.{◌≡◌, ◌+◌, ◌*◌, ◌<◌, ◌++◌, ◌∷◌, [], true, length, slice_get, Some, is_some};
-ghost use Rattle.mc_machine.specs.Stands.{IsAsked};
 ghost use Rattle.pair_core.specs.declared.turns.Act as Act;
 ghost use Rattle.pair_core.specs.Ledger.{ledger};
 ghost use Rattle.pair_core.specs.Lawful.{job_for, answer_at, going_answer, MayAnswer};
@@ -12,8 +11,9 @@ ghost use Rattle.pair_core.specs.Good.{GoodLog};
 
 use crate::monitor::{is_overdue, watch_by};
 use crate::own::{end_life, note_over, place_of, take_one};
+use crate::plant_inputs::read_moment;
 use crate::sides::other;
-use crate::state::{State, plain_answer};
+use crate::state::State;
 use crate::turns::Act;
 use crate::waits::advance;
 use crate::{Reason, Turn};
@@ -36,16 +36,11 @@ impl State {
     /// that waits goes first, where its priority is above the request's; a job is done first where the next cycle may
     /// start; the plain answer.
     #[tactic(auto, unfolding(crate::specs::Lawful::going_answer))]
-    fn going_answer(&mut self, request: &Request) -> Answer
-        requires kept { IsKept self.old }
-        requires asked { IsAsked request.now.ask }
-        ensures answer { going_answer (setup_of self.old) (ledger (setup_of self.old) self.old.log.record.entries) request.now ≡ Some result }
-        ensures world { world_of self.new ≡ world_of self.old }
-        ensures setup { setup_of self.new ≡ setup_of self.old }
-        ensures kept { IsKept self.new }
+    fn going_answer(&self, request: &Request) -> Answer
+        requires { IsKept self.now }
+        ensures { going_answer (setup_of self.now) (ledger (setup_of self.now) self.now.log.record.entries) request.now ≡ Some result }
     {
-        let moment = self.len();
-        if is_overdue(&self.setup.program, self.derived.watch, moment) {
+        if is_overdue(&self.setup.program, self.derived.watch, self.len()) {
             return Answer::CpuStop(StopCode::Cycle);
         }
         if let Some((ob, info)) = self.derived.waiting.next_above(request.prio) {
@@ -54,23 +49,14 @@ impl State {
         if let Some(job) = self.job_for(&request.ask) {
             return Answer::Job(job);
         }
-        plain_answer(
-            &self.setup.script,
-            &mut self.derived.image,
-            &request.ask,
-            moment,
-        )
+        self.plain_answer(&request.ask)
     }
 
     /// The lawful answer to what is asked next: of two sides that run, the one that is cut is lost; else that where no
     /// side is lost.
-    fn answer(&mut self, request: &Request) -> Answer
-        requires kept { IsKept self.old }
-        requires asked { IsAsked request.now.ask }
-        ensures answer { answer_at (setup_of self.old) (ledger (setup_of self.old) self.old.log.record.entries) request.now ≡ Some result }
-        ensures world { world_of self.new ≡ world_of self.old }
-        ensures setup { setup_of self.new ≡ setup_of self.old }
-        ensures kept { IsKept self.new }
+    fn answer(&self, request: &Request) -> Answer
+        requires { IsKept self.now }
+        ensures { answer_at (setup_of self.now) (ledger (setup_of self.now) self.now.log.record.entries) request.now ≡ Some result }
     {
         if self.derived.standing.running.a && self.derived.standing.running.b {
             if self.is_cut(Side::A) {
@@ -107,9 +93,17 @@ impl State {
             &entry.request.ask,
             &entry.answer,
         );
+        read_moment(
+            &mut self.derived.inputs,
+            &self.setup.script,
+            &self.derived.standing,
+            u64::from(moment) + 1,
+        );
         advance(
             &mut self.derived.waiting,
             &self.setup.program,
+            &self.setup.script,
+            &self.derived.inputs,
             self.derived.watch,
             moment,
             &entry.answer,

@@ -10,6 +10,7 @@ mod laws;
 mod monitor;
 mod own;
 mod pair;
+mod plant_inputs;
 mod showings;
 mod sides;
 mod standing;

@@ -20,13 +20,16 @@ ghost use Rattle.pair_core.specs.Endings.{HasTail};
 use crate::cuts::Cuts;
 use crate::jobs::Jobs;
 use crate::own::Own;
+use crate::plant_inputs::read_moment;
 use crate::sides::Sides;
 use crate::standing::Standing;
 use crate::state::{Derived, Log, Setup, State};
+use crate::waits::add_discrepancies;
 use crate::{Ended, Shown, SystemState, Turn};
 use alarm_queue::Waiting;
 use event_record::Record;
-use plant_script::{InputImage, Script};
+use plant_io::Inputs;
+use plant_script::Script;
 use s7_base::{Blocks, NoMemory, Side};
 use std::alloc::Global;
 use std::marker::Model;
@@ -64,12 +67,15 @@ impl Pair {
         let end = script.end();
         let cuts = Cuts::new(&script);
         let jobs = Jobs::new(alloc, &script)?;
+        let mut inputs = Inputs::new(alloc, &script)?;
+        let standing = Standing::first(solo);
+        read_moment(&mut inputs, &script, &standing, 0);
         let mut waiting = Waiting::new(alloc, &script, blocks)?;
         waiting.due(0);
+        add_discrepancies(&mut waiting, &script, &inputs, 0);
         let program = blocks.copy(alloc)?;
         let log = Record::with_room(alloc, end)?;
         let shown = Shown::with_room(alloc, 2 * end)?;
-        let image = InputImage::new();
         let first = Own::at_start(true);
         let second = Own::at_start(!solo);
         Ok(Pair {
@@ -89,10 +95,10 @@ impl Pair {
                     b: second,
                 },
                 derived: Derived {
-                    standing: Standing::first(solo),
+                    standing,
                     watch: None,
                     past: Sides { a: 0, b: 0 },
-                    image,
+                    inputs,
                     cuts,
                     waiting,
                     jobs,

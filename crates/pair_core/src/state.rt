@@ -1,29 +1,33 @@
 //! All that the pair keeps, and what a visit tests and does.
 ghost use Rattle.std.specs.Prelude.{◌≡◌, ◌+◌, ◌*◌, ◌<◌, ◌++◌, ◌∷◌, [], length, Some, nat_lt, if◌then◌else◌};
 ghost use Rattle.pair_core.specs.declared.turns.Act as Act;
-ghost use Rattle.mc_machine.specs.Stands.{IsAsked};
+ghost use Rattle.pair_core.specs.Ledger.{ledger};
 ghost use Rattle.pair_core.specs.Cuts.{is_cut, is_late};
 ghost use Rattle.pair_core.specs.Stops.{stop_by, stop_of};
 ghost use Rattle.pair_core.specs.Showings.{is_output_of};
 ghost use Rattle.pair_core.specs.Endings.{ends_by_output};
+ghost use Rattle.plant_io.specs.Inputs.{input_image, input_read, takes_output};
+ghost use Rattle.pair_core.specs.PlantInputs.{answer_read, answer_written};
 ghost use Rattle.pair_core.specs.Lawful.{plain_answer};
 ghost use Rattle.pair_core.specs.World.{is_open, is_pending, has_shown, is_down, is_left, is_behind, end_by, ended, must_wait, waits_for_other, choose, acted, standing_in, with_entry};
 ghost use Rattle.pair_core.specs.Sides.{of_side};
 ghost use Rattle.pair_core.specs.OwnParts.{own_place};
-ghost use Rattle.pair_core.specs.Kept.{setup_of, log_of, world_of, IsKept, IsImageBefore, CanAct};
+ghost use Rattle.pair_core.specs.Kept.{setup_of, log_of, world_of, IsKept, CanAct};
 ghost use Rattle.pair_core.specs.Places.{IsAt};
 ghost use Rattle.pair_core.specs.Good.{GoodLog};
 
 use crate::cuts::Cuts;
 use crate::jobs::Jobs;
 use crate::own::{Own, place_of};
+use crate::plant_inputs::{answer_read, answer_written};
 use crate::sides::{Sides, is_same, other};
 use crate::standing::Standing;
 use crate::turns::Act;
 use crate::{Ended, Reason, Shown, Turn};
 use alarm_queue::Waiting;
 use event_record::Record;
-use plant_script::{InputImage, Script};
+use plant_io::{Inputs, takes_output};
+use plant_script::Script;
 use s7_base::{Answer, Ask, Blocks, Entry, Loss, Side, StopCode};
 use subsystem::Subsystem;
 
@@ -44,14 +48,14 @@ pub struct Log {
 }
 
 /// What follows from the record, the showings and the script: who runs, from which moment the cycle is monitored, one past
-/// the last entry that each side showed, the input image, what the script made of the sides, the alarms that wait, and the
-/// jobs that were not answered.
+/// the last entry that each side showed, what the pair makes of the plant's inputs, what the script made of the sides, the
+/// alarms that wait, and the jobs that were not answered.
 #[derive(Debug, Drop)]
 pub struct Derived {
     pub standing: Standing,
     pub watch: Option<u32>,
     pub past: Sides<u32>,
-    pub image: InputImage,
+    pub inputs: Inputs,
     pub cuts: Cuts,
     pub waiting: Waiting,
     pub jobs: Jobs,
@@ -88,26 +92,66 @@ fn is_output(ask: &Ask, answer: &Answer) -> bool
     )
 }
 
-/// The answer to a request that nothing prevents, at moment k.
-pub fn plain_answer(script: &Script, image: &mut InputImage, ask: &Ask, k: u32) -> Answer
-    requires asked { IsAsked ask.now }
-    requires before { IsImageBefore script.now k image.old }
-    ensures answer { plain_answer script.now k ask.now ≡ Some result }
-    ensures before { IsImageBefore script.now k image.new }
-{
-    match ask {
-        Ask::Inputs => {
-            image.advance(script, u64::from(k));
-            Answer::Image(image.bytes())
-        }
-        Ask::Cycle => Answer::Go,
-        Ask::Outputs(_) | Ask::Tick | Ask::Retrigger | Ask::Reply(_) | Ask::Stop(_) => Answer::Done,
-        Ask::Now => Answer::Now(u64::from(k)),
-        Ask::ReadP { .. } | Ask::WriteP { .. } => unreachable!(),
-    }
-}
-
 impl State {
+    /// The input image.
+    fn input_image(&self) -> [u8; 64]
+        requires { IsKept self.now }
+        ensures { let g = ledger (setup_of self.now) self.now.log.record.entries in result ≡ input_image self.now.setup.script g.standing.running.a g.standing.running.b g.inputs g.moment }
+    {
+        let running = self.derived.standing.running;
+        self.derived.inputs.image(
+            &self.setup.script,
+            running.a,
+            running.b,
+            u64::from(self.len()),
+        )
+    }
+
+    /// The answer to a direct access that reads.
+    fn answer_read(&self, addr: u16, width: u8) -> Answer
+        requires { IsKept self.now }
+        ensures { let g = ledger (setup_of self.now) self.now.log.record.entries in result ≡ answer_read (input_read self.now.setup.script g.standing.running.a g.standing.running.b g.inputs g.moment addr width) }
+    {
+        let running = self.derived.standing.running;
+        let moment = u64::from(self.len());
+        let read = self.derived.inputs.read(
+            &self.setup.script,
+            running.a,
+            running.b,
+            addr,
+            width,
+            moment,
+        );
+        answer_read(read)
+    }
+
+    /// The answer to a direct access that writes.
+    fn answer_written(&self, addr: u16, width: u8) -> Answer
+        requires { IsKept self.now }
+        ensures { let g = ledger (setup_of self.now) self.now.log.record.entries in result ≡ answer_written (takes_output self.now.setup.script g.standing.running.a g.standing.running.b addr width) }
+    {
+        let running = self.derived.standing.running;
+        let taken = takes_output(&self.setup.script, running.a, running.b, addr, width);
+        answer_written(taken)
+    }
+
+    /// The answer to a request that nothing prevents.
+    pub fn plain_answer(&self, ask: &Ask) -> Answer
+        requires { IsKept self.now }
+        ensures { plain_answer (setup_of self.now) (ledger (setup_of self.now) self.now.log.record.entries) ask.now ≡ Some result }
+    {
+        match ask {
+            Ask::Inputs => Answer::Image(self.input_image()),
+            Ask::Cycle => Answer::Go,
+            Ask::Outputs(_) | Ask::Tick | Ask::Retrigger | Ask::Reply(_) | Ask::Stop(_) => {
+                Answer::Done
+            }
+            Ask::Now => Answer::Now(u64::from(self.len())),
+            Ask::ReadP { addr, width } => self.answer_read(*addr, *width),
+            Ask::WriteP { addr, width, .. } => self.answer_written(*addr, *width),
+        }
+    }
+
     /// The number of entries, which is the moment.
     pub fn len(&self) -> u32
         ensures { result ≡ length self.now.log.record.entries }

@@ -1,11 +1,9 @@
 ghost use Rattle.std.specs.Prelude.{true, [], IfOk};
-ghost use Rattle.mc_machine.specs.Runnable.{IsRunnable};
 ghost use Rattle.pair_core.specs.World.{part};
 ghost use Rattle.pair_core.specs.OwnParts.{first_part};
 ghost use Rattle.pair_core.specs.Places.{IsAt};
 
 use event_record::Record;
-use mc_machine::is_runnable;
 use pair_core::*;
 use plant_script::read_script;
 use s7_base::{Answer, Ask, Blocks, CodeBlock, CodeKind, Entry, Loss, Request, Side};
@@ -45,7 +43,6 @@ fn play_pattern(pair: &mut Pair, pattern: &[Side], a: &mut Subsystem, b: &mut Su
 
 #[tactic(auto, using(pair_core::proofs::Stands::loaded_stands))]
 fn loaded(alloc: Global, blocks: &Blocks) -> Result<Subsystem, Fail>
-    requires { IsRunnable blocks.now }
     ensures { IfOk result (λ s. IsAt blocks.now (first_part true) [] s) }
 {
     let Ok(mut side) = Subsystem::new(alloc) else {
@@ -63,9 +60,6 @@ fn run(alloc: Global, script: &[u8], pattern: &[Side]) -> Result<(Record, Shown,
     let Some(blocks) = Blocks::of(vec![in alloc; main]?, Vec::new(alloc)) else {
         return Err("not well formed".into());
     };
-    if !is_runnable(&blocks) {
-        return Err("not supported".into());
-    }
     if script.len() > 1_048_576 {
         return Err("too long".into());
     }

@@ -2,7 +2,6 @@
 use Rattle.std.proofs.Common.{◌≡◌, Option, Some, Result, Ok, Err, sym, ap, subst, ◌∙◌, arith}
 use Rattle.pair_io.specs.Causes.{Rose}
 use Rattle.s7_base.specs.Blocks.{Program}
-use Rattle.mc_machine.specs.Runnable.{IsRunnable}
 use Rattle.stl_lex.specs.declared.fault.LoadFault.{LoadFault}
 use Rattle.block_loader.specs.Load.{meaning_of}
 use Rattle.pair_top.specs.declared.faults.Fault.{Fault}
@@ -16,32 +15,22 @@ use Rattle.plant_script.specs.Plan.{Plan}
 use Rattle.plant_script.specs.declared.script_error.ScriptFault as scripts
 use Rattle.plant_script.specs.SecondPass.{script_of}
 use Rattle.pair_top.specs.Outside.{File, Written}
-use Rattle.pair_top.specs.Reading.{IsAccepted, IsPlanned, IsNoSource, IsNoScript, HasFailed, IsNotPlayed}
+use Rattle.pair_top.specs.Reading.{IsLoaded, IsPlanned, IsFaulty, IsNoScript, HasFailed}
 use Rattle.pair_top.specs.Serving.{AreAccepted, IsCause, IsDue, IsDone, TellsTooMuch, TellsSource, TellsNoSource, TellsScript, TellsNoScript, GivesWhatIsDue}
 
-accepts_no_long : (file : File) (program : Program) → TellsTooMuch file → IsAccepted file.content program → ⊥
-accepts_no_long file program much accepted = long_unread file accepted.loaded.bytes much accepted.loaded.read
+accepts_no_long : (file : File) (program : Program) → TellsTooMuch file → IsLoaded file.content program → ⊥
+accepts_no_long file program much accepted = long_unread file accepted.bytes much accepted.read
 
--- a program that is played is no cause
-pub not_played : (due : LoadFault) (program : Program) → IsRunnable program → IsNotPlayed due (Ok program) → ⊥
-not_played due program played cause = cause.1 played
-
--- one source has one fault
-pub same_cause : (due fault : LoadFault) (r : Result Program LoadFault) → IsNotPlayed due r → IsNotPlayed fault r → fault ≡ due
-same_cause due fault (Err first) a b = b ∙ sym a
-same_cause due fault (Ok program) a b = b.0 ∙ sym a.0
-
-accepts_a_source : (file : File) (due : LoadFault) (program : Program) → TellsNoSource file due → IsAccepted file.content program → ⊥
+accepts_a_source : (file : File) (due : LoadFault) (program : Program) → TellsNoSource file due → IsLoaded file.content program → ⊥
 accepts_a_source file due program bad accepted =
-    let same = same_bytes file.content accepted.loaded.bytes bad.bytes bad.tells.told accepted.loaded.read in
-    let meaning = ap meaning_of (sym same) ∙ accepted.loaded.meaning in
-    not_played due program accepted.played (subst (IsNotPlayed due) meaning bad.cause)
+    let same = same_bytes file.content accepted.bytes bad.bytes bad.tells.told accepted.read in
+    one_meaning (meaning_of bad.bytes) program due (subst (λ l. meaning_of l ≡ Ok program) same accepted.meaning) bad.cause
 
 -- the fault that is told is the one that is due
-source_fault : (file : File) (due fault : LoadFault) → TellsNoSource file due → IsNoSource file.content fault → fault ≡ due
+source_fault : (file : File) (due fault : LoadFault) → TellsNoSource file due → IsFaulty file.content fault → fault ≡ due
 source_fault file due fault bad none =
     let same = same_bytes file.content none.bytes bad.bytes bad.tells.told none.read in
-    same_cause due fault (meaning_of bad.bytes) bad.cause (subst (λ l. IsNotPlayed fault (meaning_of l)) same none.cause)
+    one_fault (meaning_of bad.bytes) due fault bad.cause (subst (λ l. meaning_of l ≡ Err fault) same none.meaning)
 
 plans_no_long : (file : File) (plan : Plan) → TellsTooMuch file → IsPlanned file.content plan → ⊥
 plans_no_long file plan much planned = long_unread file planned.bytes much planned.read
@@ -58,11 +47,10 @@ script_fault file due fault bad none =
     one_fault (script_of bad.bytes) due fault bad.cause (subst (λ l. script_of l ≡ Err fault) same none.cause)
 
 -- a source is not refused as none
-source_stands : (file : File) (fault : LoadFault) → TellsSource file → IsNoSource file.content fault → ⊥
+source_stands : (file : File) (fault : LoadFault) → TellsSource file → IsFaulty file.content fault → ⊥
 source_stands file fault tells bad =
     let same = same_bytes file.content bad.bytes tells.bytes tells.tells.told bad.read in
-    let meaning = ap meaning_of same ∙ tells.meaning in
-    not_played fault tells.program tells.played (subst (IsNotPlayed fault) meaning bad.cause)
+    one_meaning (meaning_of tells.bytes) tells.program fault tells.meaning (subst (λ l. meaning_of l ≡ Err fault) same bad.meaning)
 
 script_stands : (file : File) (fault : scripts.ScriptFault) → TellsScript file → IsNoScript file.content fault → ⊥
 script_stands file fault tells bad =
@@ -72,31 +60,31 @@ script_stands file fault tells bad =
 module _ (source script : File) where
   long_source_told : TellsTooMuch source → (error : PlayError) → IsCause source script error → IsDue 0 (TooLong 0) (Some (play_fault error))
   long_source_told much (refusals.Source error) r =
-      long_told LoadFault 0 (λ fault. SourceFault fault) IsNoSource source much (λ fault bad. long_unread source bad.bytes much bad.read) error r
+      long_told LoadFault 0 (λ fault. SourceFault fault) IsFaulty source much (λ fault bad. long_unread source bad.bytes much bad.read) error r
   long_source_told much (refusals.Script error) r = absurd (accepts_no_long source r.0 much r.1)
 
   no_source_told : (due : LoadFault) → TellsNoSource source due → (error : PlayError) → IsCause source script error → IsDue 0 (SourceFault due) (Some (play_fault error))
   no_source_told due bad (refusals.Source error) r =
-      fault_told LoadFault 0 (λ fault. SourceFault fault) IsNoSource source due bad.bytes bad.tells (λ fault none. ap (λ f. SourceFault f) (source_fault source due fault bad none)) error r
+      fault_told LoadFault 0 (λ fault. SourceFault fault) IsFaulty source due bad.bytes bad.tells (λ fault none. ap (λ f. SourceFault f) (source_fault source due fault bad none)) error r
   no_source_told due bad (refusals.Script error) r = absurd (accepts_a_source source due r.0 bad r.1)
 
   long_script_told : TellsSource source → TellsTooMuch script → (error : PlayError) → IsCause source script error → IsDue 1 (TooLong 1) (Some (play_fault error))
   long_script_told is much (refusals.Source error) r =
-      later_told LoadFault 0 (λ fault. SourceFault fault) IsNoSource source 1 (TooLong 1) (omega arith) is.bytes is.tells (λ fault bad. source_stands source fault is bad) error r
+      later_told LoadFault 0 (λ fault. SourceFault fault) IsFaulty source 1 (TooLong 1) (omega arith) is.bytes is.tells (λ fault bad. source_stands source fault is bad) error r
   long_script_told is much (refusals.Script error) r =
       long_told scripts.ScriptFault 1 (λ fault. ScriptFault fault) IsNoScript script much (λ fault bad. long_unread script bad.bytes much bad.read) error r.2
 
   no_script_told : (due : scripts.ScriptFault) → TellsSource source → TellsNoScript script due → (error : PlayError) → IsCause source script error
       → IsDue 1 (ScriptFault due) (Some (play_fault error))
   no_script_told due is bad (refusals.Source error) r =
-      later_told LoadFault 0 (λ fault. SourceFault fault) IsNoSource source 1 (ScriptFault due) (omega arith) is.bytes is.tells (λ fault no. source_stands source fault is no) error r
+      later_told LoadFault 0 (λ fault. SourceFault fault) IsFaulty source 1 (ScriptFault due) (omega arith) is.bytes is.tells (λ fault no. source_stands source fault is no) error r
   no_script_told due is bad (refusals.Script error) r =
       fault_told scripts.ScriptFault 1 (λ fault. ScriptFault fault) IsNoScript script due bad.bytes bad.tells (λ fault none. ap (λ f. ScriptFault f) (script_fault script due fault bad none)) error r.2
 
   complete_told : TellsSource source → TellsScript script → (HasFailed source → ⊥) → (HasFailed script → ⊥) → (error : PlayError) → IsCause source script error
       → IsDone (Some (play_fault error))
   complete_told is plan source_reads script_reads (refusals.Source error) r =
-      none_told LoadFault 0 (λ fault. SourceFault fault) IsNoSource source is.bytes is.tells (λ fault bad. source_stands source fault is bad) source_reads error r
+      none_told LoadFault 0 (λ fault. SourceFault fault) IsFaulty source is.bytes is.tells (λ fault bad. source_stands source fault is bad) source_reads error r
   complete_told is plan source_reads script_reads (refusals.Script error) r =
       none_told scripts.ScriptFault 1 (λ fault. ScriptFault fault) IsNoScript script plan.bytes plan.tells (λ fault bad. script_stands script fault plan bad) script_reads error r.2
 

@@ -8,7 +8,7 @@ use Rattle.pair_top.specs.declared.errors.FileError.{FileError}
 use Rattle.pair_top.specs.declared.errors.FileError.TheVariants as errors
 use Rattle.pair_top.specs.declared.errors.PlayError.TheVariants as refusals
 use Rattle.pair_top.specs.Outside.{File}
-use Rattle.pair_top.specs.Reading.{IsAccepted, IsTooLong, IsNoScript, HasFailed, IsRefused, CountsOnly}
+use Rattle.pair_top.specs.Reading.{IsLoaded, IsTooLong, IsNoScript, HasFailed, IsRefused, CountsOnly}
 use Rattle.pair_top.specs.Serving.{IsCause}
 
 -- a file, and the same as a second read found it: the first read, of another file, left its content and its promise
@@ -27,7 +27,7 @@ module _ (file later : File) (content : later.content ≡ file.content) (before 
   refused_later IsFault errors.NoMemory r = tt
 
   -- a script that was refused at the second read was refused after its source was accepted
-  pub script_refused : (source : File) (program : Program) → IsAccepted source.content program
+  pub script_refused : (source : File) (program : Program) → IsLoaded source.content program
       → (error : FileError scripts.ScriptFault) → IsRefused IsNoScript later error → IsCause source file (refusals.Script error)
   script_refused source program accepted error r = (program, accepted, refused_later IsNoScript error r)
 

@@ -1,37 +1,33 @@
--- What was made of a number, and what it means.
-use Rattle.std.proofs.Common.{◌≡◌, ℕ, List, Option, Some, None, Result, Ok, Err, refl, sym, ◌∙◌, ap, subst}
+-- What was made of a number, and what it means: both texts are accepted.
+use Rattle.std.proofs.Common.{◌≡◌, ℕ, List, Result, Ok, Err, sym, ◌∙◌, ap}
 use Rattle.s7_base.specs.Blocks.{Program}
-use Rattle.mc_machine.specs.Runnable.{IsRunnable}
 use Rattle.stl_lex.specs.declared.fault.LoadFault.{LoadFault}
 use Rattle.block_loader.specs.Load.{meaning_of}
-use Rattle.plant_script.specs.Gives.{Fails}
 use Rattle.plant_script.specs.Plan.{Plan}
-use Rattle.plant_script.specs.declared.script_error.ScriptFault as scripts
-use Rattle.plant_script.specs.declared.script_error.ScriptError.{ScriptError}
-use Rattle.plant_script.specs.declared.script_error.ScriptError.TheVariants as readings
+use Rattle.plant_script.specs.declared.script_error.ScriptFault.{ScriptFault}
 use Rattle.plant_script.specs.SecondPass.{script_of}
 use Rattle.load_maker.specs.Source.{source_text}
 use Rattle.load_maker.specs.Script.{script_text}
-use Rattle.pair_top.specs.Reading.{IsNotPlayed}
-use Rattle.pair_top.specs.Making.{IsMadeProgram, IsMadePlan, IsMadeSourceFault, IsMadeScriptCause}
+use Rattle.workload_laws.proofs.Accepted.{script_is_accepted}
+use Rattle.workload_laws.proofs.Sources.{source_is_accepted}
+use Rattle.pair_top.specs.Orders.{AreMoments}
+use Rattle.pair_top.specs.Making.{IsMadeProgram, IsMadePlan}
 
-module _ (moments : ℕ) (bytes : List ℕ) (is : bytes ≡ source_text moments) where
-  pub made_program : (program : Program) → meaning_of bytes ≡ Ok program → IsRunnable program → IsMadeProgram moments program
-  made_program program means played = record { meaning = ap meaning_of (sym is) ∙ means; played = played }
+no_fault : {A F : Type 0} → (r : Result A F) (x : A) (f : F) → r ≡ Ok x → r ≡ Err f → ⊥
+no_fault r x f good bad = cc
 
-  pub made_faulty : (fault : LoadFault) → meaning_of bytes ≡ Err fault → IsMadeSourceFault moments fault
-  made_faulty fault bad = subst (λ (r : Result Program LoadFault). IsNotPlayed fault r) (sym bad ∙ ap meaning_of is) refl
+module _ (moments : ℕ) (in_range : AreMoments moments) (bytes : List ℕ) where
+  pub no_source_fault : (fault : LoadFault) → bytes ≡ source_text moments → meaning_of bytes ≡ Err fault → ⊥
+  no_source_fault fault is bad = no_fault (meaning_of bytes) _ fault (ap meaning_of is ∙ source_is_accepted moments in_range.0 in_range.1) bad
 
-  pub made_unsupported : (program : Program) (fault : LoadFault) → meaning_of bytes ≡ Ok program → IsNotPlayed fault (Ok program) → IsMadeSourceFault moments fault
-  made_unsupported program fault means cause = subst (λ (r : Result Program LoadFault). IsNotPlayed fault r) (sym means ∙ ap meaning_of is) cause
+  pub no_script_fault : (fault : ScriptFault) → bytes ≡ script_text moments → script_of bytes ≡ Err fault → ⊥
+  no_script_fault fault is bad =
+      let accepted = script_is_accepted moments in_range.0 in_range.1 in
+      no_fault (script_of bytes) accepted.plan fault (ap script_of is ∙ accepted.read) bad
 
-module _ (moments : ℕ) (bytes : List ℕ) (is : bytes ≡ script_text moments) where
-  read : script_of (script_text moments) ≡ script_of bytes
-  read = ap script_of (sym is)
+module _ (moments : ℕ) (bytes : List ℕ) where
+  pub made_program : (program : Program) → bytes ≡ source_text moments → meaning_of bytes ≡ Ok program → IsMadeProgram moments program
+  made_program program is means = ap meaning_of (sym is) ∙ means
 
-  pub made_plan : (plan : Plan) → script_of bytes ≡ Ok plan → IsMadePlan moments plan
-  made_plan plan means = read ∙ means
-
-  pub made_misread : (error : ScriptError) → Fails error (script_of bytes) → IsMadeScriptCause moments error
-  made_misread (readings.Fault fault) bad = read ∙ bad
-  made_misread readings.NoMemory bad = tt
+  pub made_plan : (plan : Plan) → bytes ≡ script_text moments → script_of bytes ≡ Ok plan → IsMadePlan moments plan
+  made_plan plan is means = ap script_of (sym is) ∙ means

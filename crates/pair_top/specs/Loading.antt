@@ -73,4 +73,4 @@ DueServed None outside fault = Unit {0}
 DueServed (Some (play manner source script)) outside fault = GivesWhatIsDue (outside.file source) (outside.file script) outside.sink fault
 DueServed (Some (load source)) outside fault = LoadsWhatIsDue (outside.file source) outside.sink fault
 DueServed (Some (connect events)) outside fault = ConnectsWhatIsDue (outside.file events) outside.sink fault
-DueServed (Some (make moments)) outside fault = MakesWhatIsDue moments outside.sink fault
+DueServed (Some (make moments)) outside fault = MakesWhatIsDue outside.sink fault

@@ -4,7 +4,6 @@ use Rattle.pair_io.specs.Causes.{Rose}
 use Rattle.pair_io.specs.declared.files.FilesError.{FilesError}
 use Rattle.pair_io.specs.declared.files.FilesError.TheVariants as unread
 use Rattle.s7_base.specs.Blocks.{Program}
-use Rattle.mc_machine.specs.Runnable.{IsRunnable}
 use Rattle.stl_lex.specs.declared.fault.LoadFault.{LoadFault}
 use Rattle.block_loader.specs.Load.{meaning_of}
 use Rattle.pair_top.specs.declared.faults.Fault.{Fault}
@@ -48,26 +47,6 @@ pub record IsFaulty (content : Option (List ℕ)) (fault : LoadFault) : Type 0 w
   pub bytes : List ℕ
   pub read : WasRead content bytes
   pub meaning : meaning_of bytes ≡ Err fault
-
--- a file was read whole, and its source has this program, which is one that is played
-pub record IsAccepted (content : Option (List ℕ)) (program : Program) : Type 0 where
-  pub loaded : IsLoaded content program
-  pub played : IsRunnable program
-
--- the fault of a source without faults whose program isn't played
-abbrev pub source_not_built : LoadFault
-source_not_built = record { kind = 99; line = 0 }
-
--- why a source isn't played: its first fault, or that its program is none of those that are played
-abbrev pub IsNotPlayed : LoadFault → Result Program LoadFault → Type 0
-IsNotPlayed fault (Err first) = fault ≡ first
-IsNotPlayed fault (Ok program) = (fault ≡ source_not_built) × (IsRunnable program → ⊥)
-
--- a file was read whole, and its source isn't played
-pub record IsNoSource (content : Option (List ℕ)) (fault : LoadFault) : Type 0 where
-  pub bytes : List ℕ
-  pub read : WasRead content bytes
-  pub cause : IsNotPlayed fault (meaning_of bytes)
 
 -- a file was read whole, and is a script of this plan
 pub record IsPlanned (content : Option (List ℕ)) (plan : Plan) : Type 0 where

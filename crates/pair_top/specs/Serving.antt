@@ -7,7 +7,6 @@ use Rattle.s7_events.specs.declared.entry.Side.{Side}
 use Rattle.s7_events.specs.declared.entry.Side.TheVariants.{A, B}
 use Rattle.s7_events.specs.declared.entry.Entry.{Entry}
 use Rattle.s7_base.specs.Blocks.{Program}
-use Rattle.mc_machine.specs.Runnable.{IsRunnable}
 use Rattle.pair_core.specs.declared.endings.Ended.{Ended}
 use Rattle.pair_core.specs.declared.endings.Ended.TheVariants.{NotPlayed}
 use Rattle.pair_top.specs.declared.faults.Fault.{Fault}
@@ -22,7 +21,7 @@ use Rattle.pair_core.specs.Setup.{Setup}
 use Rattle.pair_core.specs.World.{World, first_world, play}
 use Rattle.pair_core.specs.Finished.{ended_by}
 use Rattle.pair_top.specs.Outside.{File, Written}
-use Rattle.pair_top.specs.Reading.{limit, IsSteady, HasFailed, IsRefused, CountsOnly, IsAccepted, IsPlanned, IsNoSource, IsNoScript, IsNotPlayed}
+use Rattle.pair_top.specs.Reading.{limit, IsSteady, HasFailed, IsRefused, CountsOnly, IsLoaded, IsPlanned, IsFaulty, IsNoScript}
 use Rattle.stl_lex.specs.declared.fault.LoadFault.{LoadFault}
 use Rattle.block_loader.specs.Load.{meaning_of}
 use Rattle.plant_script.specs.declared.script_error.ScriptFault as scripts
@@ -79,7 +78,7 @@ play_text manner account tail = text (mode_for manner) account.entries account.s
 
 -- both files were read whole and accepted
 pub record AreAccepted (source script : Option (List ℕ)) (program : Program) (plan : Plan) : Type 0 where
-  pub accepted : IsAccepted source program
+  pub accepted : IsLoaded source program
   pub planned : IsPlanned script plan
 
 -- nothing was played
@@ -115,8 +114,8 @@ AreLeft fault a b = AreNew a b
 
 -- why the files of a play were refused, and that the files before the refused one were read whole and accepted
 abbrev pub IsCause : File → File → PlayError → Type 0
-IsCause source script (refusals.Source error) = IsRefused IsNoSource source error
-IsCause source script (refusals.Script error) = (program : Program) × IsAccepted source.content program × IsRefused IsNoScript script error
+IsCause source script (refusals.Source error) = IsRefused IsFaulty source error
+IsCause source script (refusals.Script error) = (program : Program) × IsLoaded source.content program × IsRefused IsNoScript script error
 
 -- this fault tells why a play was refused
 pub record IsRefusal (source script : File) (fault : Fault) : Type 0 where
@@ -201,13 +200,12 @@ pub record TellsSource (file : File) : Type 0 where
   pub tells : Tells file bytes
   pub program : Program
   pub meaning : meaning_of bytes ≡ Ok program
-  pub played : IsRunnable program
 
 -- a file tells a source that isn't played, with this fault
 pub record TellsNoSource (file : File) (due : LoadFault) : Type 0 where
   pub bytes : List ℕ
   pub tells : Tells file bytes
-  pub cause : IsNotPlayed due (meaning_of bytes)
+  pub cause : meaning_of bytes ≡ Err due
 
 -- a file tells a plant script that is played
 pub record TellsScript (file : File) : Type 0 where

@@ -1,14 +1,12 @@
 //! Reads the files of a command.
-ghost use Rattle.std.specs.Prelude.{◌≡◌, ℕ, List, None, Ok, IfSome, IsNone, IfOk, IfErr, OnOk};
-ghost use Rattle.mc_machine.specs.Runnable.{IsRunnable};
-ghost use Rattle.pair_top.specs.Reading.{WasRead, IsLoaded, IsFaulty, IsAccepted, IsPlanned, IsNoSource, IsNotPlayed, IsNoScript, IsUnread, IsRefused, UnreadCounts, CountsOnly};
+ghost use Rattle.std.specs.Prelude.{◌≡◌, ℕ, List, IfOk, IfErr, OnOk};
+ghost use Rattle.pair_top.specs.Reading.{WasRead, IsLoaded, IsFaulty, IsPlanned, IsNoScript, IsUnread, IsRefused, UnreadCounts, CountsOnly};
 ghost use Rattle.pair_top.specs.Outside.{file_in};
 ghost use Rattle.pair_top.specs.Connecting.{IsConnected, HasBadEvents};
 
 use crate::errors::FileError;
 use block_loader::{LoadError, load};
 use ft_connection::{ConnError, play};
-use mc_machine::is_runnable;
 use pair_io::{Files, FilesError};
 use plant_script::{Script, ScriptError, ScriptFault, read_script};
 use s7_base::Blocks;
@@ -17,9 +15,6 @@ use stl_lex::LoadFault;
 
 /// The most bytes of a source or a script.
 pub const LIMIT: u64 = 1_048_576;
-
-/// The kind of the fault of a source without faults that is not played.
-const NOT_BUILT: u8 = 99;
 
 /// Returns the bytes of the file of this name.
 fn read_file<F: Files>(alloc: Global, files: &mut F, name: &[u8]) -> Result<Vec<u8>, FilesError>
@@ -54,41 +49,6 @@ pub fn load_source<F: Files>(
         Err(LoadError::Fault(fault)) => Err(FileError::Content(fault)),
         Err(LoadError::NoMemory) => Err(FileError::NoMemory),
     }
-}
-
-/// Returns why the blocks of a source without faults are not played. None where they are.
-pub fn fault_of_blocks(blocks: &Blocks) -> Option<LoadFault>
-    ensures none { IsNone result → IsRunnable blocks.now }
-    ensures some { IfSome result (λ fault. IsNotPlayed fault (Ok blocks.now)) }
-{
-    if !is_runnable(blocks) {
-        return Some(LoadFault {
-            kind: NOT_BUILT,
-            line: 0,
-        });
-    }
-    None
-}
-
-/// Returns the blocks of the source of this name, which are played.
-pub fn read_blocks<F: Files>(
-    alloc: Global,
-    files: &mut F,
-    name: &[u8],
-) -> Result<Blocks, FileError<LoadFault>>
-    ensures read { IfOk result (IsAccepted (F.content files.old name.now)) }
-    ensures runnable { IfOk result IsRunnable }
-    ensures refused { IfErr result (IsRefused IsNoSource (file_in F.Files files.old files.new name.now)) }
-    ensures stays { (other : List ℕ) → F.content files.new other ≡ F.content files.old other }
-    ensures promises { (other : List ℕ) → F.never_fails files.old other → F.never_fails files.new other }
-    ensures counts { OnOk result ((other : List ℕ) → F.faults files.new other ≡ F.faults files.old other) }
-    ensures steady { IfErr result (λ error. (other : List ℕ) → CountsOnly error (file_in F.Files files.old files.new other)) }
-{
-    let blocks = load_source(alloc, files, name)?;
-    if let Some(fault) = fault_of_blocks(&blocks) {
-        return Err(FileError::Content(fault));
-    }
-    Ok(blocks)
 }
 
 /// Returns the plant script of this name.

@@ -1,6 +1,5 @@
 //! The top call.
 ghost use Rattle.std.specs.Prelude.{◌≡◌, ◌≤◌, ◌↔◌, ℕ, List, true, None, Some, IsNone, IfOk, IfErr, OnOk, OnErr};
-ghost use Rattle.mc_machine.specs.Runnable.{IsRunnable};
 ghost use Rattle.subsystem.specs.Part.{IsNew, IsOpen};
 ghost use Rattle.trace_text.specs.declared.mode.Mode.{Mode};
 ghost use Rattle.pair_core.specs.World.{first_world, play};
@@ -10,7 +9,7 @@ ghost use Rattle.pair_core.specs.Endings.{HasTail};
 ghost use Rattle.trace_text.specs.Text.{text};
 ghost use Rattle.trace_printer.specs.LoadText.{load_text};
 ghost use Rattle.pair_top.specs.Outside.{file_in, sink_in, outside_of};
-ghost use Rattle.pair_top.specs.Reading.{IsAccepted, IsPlanned};
+ghost use Rattle.pair_top.specs.Reading.{IsLoaded, IsPlanned};
 ghost use Rattle.pair_top.specs.Orders.{made, is_alone, visits_for, AreMoments};
 ghost use Rattle.pair_top.specs.Playing.{AreAt, of_side};
 ghost use Rattle.pair_top.specs.Serving.{AreUnused, IsCause, PlayCounts, AreSteady, IsFinished, ComesToTail, IsWriting, IsOutcome, PlayServed, IsUnplayed, setup_of, account_of, GivesWhatIsDue};
@@ -25,7 +24,7 @@ use crate::errors::{PlayError, play_fault, script_fault, source_fault};
 use crate::fault_text::exit_status;
 use crate::making::make_both;
 use crate::play::{Played, Visits, finish, play_visits};
-use crate::reading::{load_source, play_connection, read_blocks, read_plant};
+use crate::reading::{load_source, play_connection, read_plant};
 use crate::words::{Command, command_from};
 use crate::{Fault, Gate, Outcome};
 use ft_connection::ConnText;
@@ -48,14 +47,13 @@ fn read_both<F: Files>(
     script: &[u8],
     files: &mut F,
 ) -> Result<(Blocks, Script), PlayError>
-    ensures source { IfOk result (λ both. IsAccepted (F.content files.old source.now) both.0) }
-    ensures runnable { IfOk result (λ both. IsRunnable both.0) }
+    ensures source { IfOk result (λ both. IsLoaded (F.content files.old source.now) both.0) }
     ensures script { IfOk result (λ both. IsPlanned (F.content files.old script.now) both.1) }
     ensures refused { let file = file_in F.Files files.old files.new in IfErr result (IsCause (file source.now) (file script.now)) }
     ensures counts { OnOk result ((other : List ℕ) → F.faults files.new other ≡ F.faults files.old other) }
     ensures steady { IfErr result (λ error. (other : List ℕ) → PlayCounts error (file_in F.Files files.old files.new other)) }
 {
-    let blocks = match read_blocks(alloc, files, source) {
+    let blocks = match load_source(alloc, files, source) {
         Ok(blocks) => blocks,
         Err(error) => return Err(PlayError::Source(error)),
     };
@@ -74,7 +72,6 @@ fn open(
 ) -> Result<Pair, NoMemory>
     requires a { IsNew a.old }
     requires b { IsNew b.old }
-    requires runnable { IsRunnable blocks.now }
     ensures setup { IfOk result (λ pair. pair.setup ≡ setup_of blocks.now script solo) }
     ensures world { IfOk result (λ pair. pair.world ≡ first_world solo) }
     ensures alone { solo ≡ true → IfOk result (λ pair. IsAlone pair.setup pair.world 0) }
@@ -151,7 +148,6 @@ fn play_and_write<K: Sink>(
 ) -> Outcome
     requires a { IsNew a.old }
     requires b { IsNew b.old }
-    requires runnable { IsRunnable blocks.now }
     requires readable { AreReadable visits }
     ensures status { result.status ≡ status_of result.fault }
     ensures played { IsOutcome (manner_in visits.entry) blocks.now script
@@ -285,11 +281,11 @@ fn serve_make<K: Sink>(
     ensures served { MakeServed moments (sink_in K.Sink sink.old sink.new)
         (account_of result.entries.entries result.shown.list result.ended) a.new b.new result.fault }
     ensures words { result.fault ≡ Some Fault.Usage → ⊥ }
-    ensures due { MakesWhatIsDue moments (sink_in K.Sink sink.old sink.new) result.fault }
+    ensures due { MakesWhatIsDue (sink_in K.Sink sink.old sink.new) result.fault }
 {
     let (blocks, script) = match make_both(alloc, moments) {
         Ok(both) => both,
-        Err(fault) => return Outcome::refused(alloc, fault),
+        Err(NoMemory) => return Outcome::refused(alloc, Fault::NoMemory),
     };
     play_and_write(alloc, &blocks, script, Visits::Made(moments), sink, a, b)
 }

@@ -5,7 +5,7 @@ use Rattle.s7_events.specs.declared.entry.Side.TheVariants.{A, B}
 use Rattle.plant_script.specs.declared.plan.Module.{Module}
 use Rattle.plant_script.specs.Plan.{Plan}
 use Rattle.plant_io.specs.PlantValue.{side_bytes}
-use Rattle.plant_io.specs.PairValue.{Standing, of_side, time_of, is_due_of, pair_before}
+use Rattle.plant_io.specs.PairValue.{PairState, Standing, of_side, time_of, step_of, is_due_of, is_reached, pair_before}
 
 -- both sides run at the moment, and read different bytes
 pub record Differ (plan : Plan) (m : Module) (standing : ℕ → Standing) (moment : ℕ) : Type 0 where
@@ -38,3 +38,8 @@ TakesMaster plan m standing from count = DifferFor plan m standing from (count +
 abbrev pub IsDueOnce : Plan → Module → (ℕ → Standing) → ℕ → ℕ → Type 0
 IsDueOnce plan m standing from count = DifferFor plan m standing from (count + 1)
     → is_due_of m.kind (pair_before plan m standing (from + count)) (pair_before plan m standing (from + count + 1)) ≡ (count + 1 == time_of m.kind)
+
+-- OB70 becomes due by a moment exactly where the state after it says that the discrepancy time is reached
+abbrev pub IsDueWhenReached : Plan → Module → Standing → ℕ → PairState → Type 0
+IsDueWhenReached plan m now moment before =
+    is_due_of m.kind before (step_of plan m now moment before) ≡ is_reached m.kind (step_of plan m now moment before)

@@ -1,3 +1,4 @@
+pub mod Inputs
 pub mod Lasting
 pub mod PairValue
 pub mod PlantValue

@@ -64,6 +64,10 @@ step_of plan m standing moment before =
 abbrev pub is_due_of : ModuleKind → PairState → PairState → Bool
 is_due_of kind before after = is_due (time_of kind) before after
 
+-- the sides have differed for just as many moments in a row as the discrepancy time
+abbrev pub is_reached : ModuleKind → PairState → Bool
+is_reached kind state = nat_lt 0 state.run && (state.run == time_of kind)
+
 -- the state before a moment, with the standing at each moment
 abbrev pub pair_before : Plan → Module → (ℕ → Standing) → ℕ → PairState
 pair_before plan m standing zero = fresh

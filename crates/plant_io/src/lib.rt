@@ -2,10 +2,12 @@
 //! one module make of it.
 #![tactic(auto)]
 
+mod inputs;
 mod law;
 mod redundant;
 mod value;
 
-pub use law::lasting_difference;
+pub use inputs::{Inputs, takes_output};
+pub use law::{due_when_reached, lasting_difference};
 pub use redundant::Redundant;
 pub use value::{reachable, value_at};

@@ -1,6 +1,6 @@
 //! A module of inputs that both sides have.
 ghost use Rattle.std.specs.Prelude.{◌≡◌, ℕ, true, ◌+◌, ◌-◌, ◌^◌, ◌<◌, ◌≤◌, Some, slice_get, slice_index, IsTrue, IfSome};
-ghost use Rattle.plant_io.specs.PairValue.{PairState, Standing, fresh, pair_step, is_due, step_of, is_due_of, pair_before, master_runs, is_redundant, IsRedundantInput};
+ghost use Rattle.plant_io.specs.PairValue.{PairState, Standing, fresh, pair_step, is_due, step_of, is_due_of, pair_before, master_runs, is_redundant, IsRedundantInput, time_of, is_reached};
 ghost use Rattle.plant_io.specs.PlantValue.{side_bytes};
 ghost use Rattle.plant_script.specs.Form.{IsModule};
 ghost use Rattle.plant_script.specs.declared.plan.Module.{Module};
@@ -10,6 +10,16 @@ use crate::value::{MODULE_BYTES, side_bytes};
 use plant_script::{Module, ModuleKind, Script};
 use s7_events::Side;
 use std::marker::Model;
+
+/// The discrepancy time of a REDUNDANT module in milliseconds, 0 of any other.
+fn time_of(kind: ModuleKind) -> u16
+    ensures { result ≡ time_of kind }
+{
+    match kind {
+        ModuleKind::Redundant(time) => time,
+        ModuleKind::Switched | ModuleKind::OneSided(_) => 0,
+    }
+}
 
 /// What two sides make of one REDUNDANT module of inputs: the value that the pair takes, and for how many moments in
 /// a row the sides have differed. It takes no memory.
@@ -104,7 +114,7 @@ impl Redundant {
     }
 
     /// Moment k of a REDUNDANT module, which may be of any script.
-    fn step_of(
+    pub(crate) fn step_of(
         &mut self,
         script: &Script,
         m: &Module,
@@ -155,6 +165,21 @@ impl Redundant {
     {
         let m = script.modules()[index as usize];
         self.step_of(script, &m, a_runs, b_runs, master, k)
+    }
+
+    /// Whether the sides have differed for just as many moments in a row as the discrepancy time of a module of this kind.
+    pub(crate) fn is_reached(&self, kind: ModuleKind) -> bool
+        ensures { result ≡ is_reached kind self.now }
+    {
+        self.run > 0 && self.run == u64::from(time_of(kind))
+    }
+
+    /// Byte i of the module, as the pair takes it after the last `step`.
+    pub(crate) fn byte(&self, i: usize) -> u8
+        requires { i < 64 }
+        ensures { result ≡ slice_index self.now.bytes i }
+    {
+        self.bytes[i]
     }
 
     /// The value that the pair takes of a byte of the module, after the last `step`.

@@ -1,5 +1,4 @@
 pub mod Digits
-pub mod ImageLaws
 pub mod IndexLaws
 pub mod Passes
 pub mod Pieces

@@ -1,8 +1,8 @@
 -- A script without fault has its form.
 use Rattle.std.proofs.Common.{◌≡◌, ℕ, suc, ◌≤◌, ◌<◌, ◌+◌, Bool, true, false, cond, List, [], ◌∷◌, length, get_or, Option, Some, None, refl, sym, ◌∙◌, ap, subst, arith}
-use Rattle.std.specs.Prelude.{All, not, is_some, ◌&&◌, nat_le, nat_lt}
+use Rattle.std.specs.Prelude.{All, is_some, ◌&&◌, nat_le, nat_lt}
 use Rattle.std.specs.List.{find}
-use Rattle.std.specs.Option.{option_map, option_or}
+use Rattle.std.specs.Option.{option_map}
 use Rattle.std.proofs.lemmas.Bool.{leb-true, leb-false, ltb-true, and_parts}
 use Rattle.std.proofs.lemmas.List.Elements.{All-nil, All-cons, All-weaker}
 use Rattle.plant_script.specs.declared.plan.Module.{Module}
@@ -13,7 +13,7 @@ use Rattle.plant_script.specs.declared.second_pass.Failures.{Failures}
 use Rattle.s7_events.specs.declared.entry.Side.{Side}
 use Rattle.plant_script.specs.declared.script_error.ScriptFault.{ScriptFault}
 use Rattle.plant_script.specs.Form.{IsModule}
-use Rattle.plant_script.specs.Plan.{Plan, has_input, fits_side, no_failures, breaks_order, after_what, is_switched, is_comeback, InOrder, HasFitting, HasModule, AreModules, AreEvents, IsBuilt, IsPlan}
+use Rattle.plant_script.specs.Plan.{Plan, has_input, fits_side, no_failures, breaks_order, after_what, is_comeback, InOrder, HasFitting, HasModule, AreModules, AreEvents, IsBuilt, IsPlan}
 use Rattle.plant_script.specs.FirstPass.{fault_at}
 use Rattle.plant_script.specs.SecondPass.{event_fault, events_fault, unbuilt_line}
 use Rattle.plant_script.specs.InputIndex.{IsBelow}
@@ -58,31 +58,17 @@ ordered end failures (x ∷ xs) e = by_fault (event_fault end failures x) refl e
 
 -- ---- what is supported
 
-neither : (o p : Option ℕ) → option_or o p ≡ None → (o ≡ None) × (p ≡ None)
-neither None p e = (refl, e)
-neither (Some x) p e = absurd cc
-
 not_found : {X : Type 0} (f : X → ℕ) (o : Option X) → option_map f o ≡ None → is_some o ≡ false
 not_found f None e = refl
 not_found f (Some x) e = absurd cc
 
-not_false : (a : Bool) → not a ≡ false → a ≡ true
-not_false true e = refl
-not_false false e = absurd cc
-
-is_built : (plan : Plan) → unbuilt_line plan.modules plan.events ≡ None → IsBuilt plan
+is_built : (plan : Plan) → unbuilt_line plan.events ≡ None → IsBuilt plan
 unfolding unbuilt_line
-is_built plan e =
-    let both = neither _ _ e in
-    let modules = find_none (λ (m : Module). not (is_switched m.kind)) plan.modules (not_found (λ (m : Module). m.line) _ both.0) in
-    record {
-      modules = All-weaker (λ (m : Module). not (is_switched m.kind) ≡ false) (λ (m : Module). is_switched m.kind ≡ true) (λ m is. not_false (is_switched m.kind) is) plan.modules modules;
-      events = find_none (λ (event : Event). is_comeback event.what) plan.events (not_found (λ (event : Event). event.line) _ both.1);
-    }
+is_built plan e = find_none (λ (event : Event). is_comeback event.what) plan.events (not_found (λ (event : Event). event.line) _ e)
 
 -- ---- the whole
 
-pub plan_is : (plan : Plan) → AreParts plan → events_fault plan.end no_failures plan.events ≡ None → unbuilt_line plan.modules plan.events ≡ None → IsPlan plan
+pub plan_is : (plan : Plan) → AreParts plan → events_fault plan.end no_failures plan.events ≡ None → unbuilt_line plan.events ≡ None → IsPlan plan
 plan_is plan parts order built =
     let second = ordered plan.end no_failures plan.events order in
     record {

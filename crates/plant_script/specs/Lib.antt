@@ -3,7 +3,6 @@ pub mod Fields
 pub mod FirstPass
 pub mod Form
 pub mod Gives
-pub mod InputImage
 pub mod InputIndex
 pub mod Lines
 pub mod Numbers

@@ -62,12 +62,6 @@ is_alarm_or_job (Suspect side pass) = false
 unfoldable pub first_alarm_or_job : Plan → Option ℕ
 first_alarm_or_job plan = option_map (λ event. event.line) (find (λ event. is_alarm_or_job event.what) plan.events)
 
--- reached by whichever side runs
-abbrev pub is_switched : ModuleKind → Bool
-is_switched Switched = true
-is_switched (OneSided side) = false
-is_switched (Redundant time) = false
-
 -- whether it stops the side
 abbrev pub stops : What → Side → Bool
 stops (Input at_byte other value) side = false
@@ -152,10 +146,9 @@ pub record AreEvents (modules : List Module) (events : List Event) : Type 0 wher
   pub lines : AllPairs (λ earlier later. earlier.line < later.line) events
   pub comebacks : comebacks events ≤ 64
 
--- what is supported: SWITCHED modules, and no RETURN and no SUSPECT line
-pub record IsBuilt (plan : Plan) : Type 0 where
-  pub modules : All (λ m. is_switched m.kind ≡ true) plan.modules
-  pub events : All (λ event. is_comeback event.what ≡ false) plan.events
+-- what is supported: no RETURN and no SUSPECT line
+abbrev pub IsBuilt : Plan → Type 0
+IsBuilt plan = All (λ event. is_comeback event.what ≡ false) plan.events
 
 -- the plan of a script without fault
 pub record IsPlan (plan : Plan) : Type 0 where

@@ -1,14 +1,13 @@
 -- The second pass: the moments against the end, and the order of FAIL and RETURN.
-use Rattle.std.specs.Prelude.{◌≡◌, ℕ, not, List, [], ◌∷◌, Option, Some, None, Result, Ok, Err, nat_le, if◌then◌else◌}
-use Rattle.std.specs.Option.{option_map, option_or}
+use Rattle.std.specs.Prelude.{◌≡◌, ℕ, List, [], ◌∷◌, Option, Some, None, Result, Ok, Err, nat_le, if◌then◌else◌}
+use Rattle.std.specs.Option.{option_map}
 use Rattle.std.specs.List.{find}
-use Rattle.plant_script.specs.declared.plan.Module.{Module}
 use Rattle.plant_script.specs.declared.plan.Event.{Event}
 use Rattle.plant_script.specs.declared.script_error.ScriptFault.{ScriptFault}
 use Rattle.plant_script.specs.Faults.{bad_time, fail_return_order, not_built}
 use Rattle.plant_script.specs.declared.second_pass.Failures.{Failures}
 use Rattle.plant_script.specs.FirstPass.{◌≫◌, nothing_read, fault_at, first_pass}
-use Rattle.plant_script.specs.Plan.{Plan, no_failures, failed_at, breaks_order, after_what, is_switched, is_comeback}
+use Rattle.plant_script.specs.Plan.{Plan, no_failures, failed_at, breaks_order, after_what, is_comeback}
 use Rattle.plant_script.specs.Words.{lines_of}
 
 -- the fault of an event, where its side failed at these moments before
@@ -29,11 +28,9 @@ events_fault end failures (event ∷ events) =
 
 -- ---- what is not supported yet
 
--- the line of the first module that is not SWITCHED; else that of the first RETURN or SUSPECT line
-unfoldable pub unbuilt_line : List Module → List Event → Option ℕ
-unbuilt_line modules events =
-    option_or (option_map (λ m. m.line) (find (λ m. not (is_switched m.kind)) modules))
-    (option_map (λ event. event.line) (find (λ event. is_comeback event.what) events))
+-- the line of the first RETURN or SUSPECT line
+unfoldable pub unbuilt_line : List Event → Option ℕ
+unbuilt_line events = option_map (λ event. event.line) (find (λ event. is_comeback event.what) events)
 
 -- ---- the whole script
 
@@ -42,7 +39,7 @@ built None plan = Ok plan
 built (Some line) plan = Err (fault_at not_built line)
 
 abbrev pub ordered : Option ScriptFault → Plan → Result Plan ScriptFault
-ordered None plan = built (unbuilt_line plan.modules plan.events) plan
+ordered None plan = built (unbuilt_line plan.events) plan
 ordered (Some fault) plan = Err fault
 
 -- The plan of a script, or its first fault. The second pass is made only where the first finds none.

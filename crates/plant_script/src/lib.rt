@@ -3,7 +3,6 @@
 
 mod fields;
 mod first_pass;
-mod input_image;
 mod input_index;
 mod lines;
 mod numbers;
@@ -15,7 +14,6 @@ mod second_pass;
 mod words;
 
 pub use fields::split_at_byte;
-pub use input_image::InputImage;
 pub use plan::{Event, Module, ModuleKind, What};
 pub use script::Script;
 pub use script_error::{ScriptError, ScriptFault};

@@ -27,14 +27,14 @@ pub struct Module {
 
 impl Module {
     /// Returns the first byte behind the module.
-    pub(crate) fn past_end(&self) -> u32
+    pub fn past_end(&self) -> u32
         ensures { result ≡ self.now.at_byte + self.now.len }
     {
         u32::from(self.at_byte) + u32::from(self.len)
     }
 
     /// Returns whether this is a module of inputs that has the byte.
-    pub(crate) fn has_input(&self, at_byte: u16) -> bool
+    pub fn has_input(&self, at_byte: u16) -> bool
         ensures { result ≡ has_input at_byte self.now }
     {
         self.input && self.at_byte <= at_byte && u32::from(at_byte) < self.past_end()

@@ -1,9 +1,8 @@
 //! A plant script that was read.
-ghost use Rattle.std.specs.Prelude.{◌≡◌, ◌↔◌, None, All, IfOk, unwrap_or};
+ghost use Rattle.std.specs.Prelude.{◌≡◌, ◌↔◌, None, All, IfOk};
 ghost use Rattle.std.specs.List.{find};
 ghost use Rattle.plant_script.specs.Plan.{IsPlan, is_alarm_or_job, first_alarm_or_job};
 ghost use Rattle.plant_script.specs.Values.{value_by_event, last_value};
-ghost use Rattle.plant_script.specs.InputImage.{plant_value};
 
 use crate::input_index::InputIndex;
 use crate::plan::{Event, Module};
@@ -93,9 +92,6 @@ impl Script {
 
         // None comes exactly where no such line stands.
         ensures none { result ≡ None ↔ All (λ event. value_by_event at_byte side k event ≡ None) self.now.events }
-
-        // The value of a byte is this, or 0 where there is none.
-        ensures value { side ≡ None → unwrap_or result 0 ≡ plant_value self.now at_byte k }
     {
         self.index.last(at_byte, side, k)
     }

@@ -13,7 +13,7 @@ use std::alloc::Global;
 
 /// Returns the script that the bytes spell, of which there are at most 1,048,576, or its first fault: that of the first
 /// line in the first pass, and where this finds none, in the second; of one line the lowest. A script without fault that
-/// has a module which is not SWITCHED, or a RETURN or SUSPECT line, is refused with the fault 99 at its first such line.
+/// has a RETURN or SUSPECT line is refused with the fault 99 at its first such line.
 #[tactic(auto, unfolding(crate::specs::SecondPass::script_of), using(crate::proofs::Whole::plan_is))]
 pub fn read_script(alloc: Global, bytes: &[u8]) -> Result<Script, ScriptError>
     requires { length bytes.now ≤ 1048576 }
@@ -24,7 +24,7 @@ pub fn read_script(alloc: Global, bytes: &[u8]) -> Result<Script, ScriptError>
     if let Some(fault) = events_fault(parts.end, &parts.events) {
         return Err(ScriptError::Fault(fault));
     }
-    if let Some(line) = unbuilt_line(&parts.modules, &parts.events) {
+    if let Some(line) = unbuilt_line(&parts.events) {
         return Err(ScriptError::Fault(fault_at(NOT_BUILT, line)));
     }
     let Parts {

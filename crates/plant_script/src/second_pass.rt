@@ -1,11 +1,11 @@
 //! The second pass: the moments against the end, and the order of FAIL and RETURN.
-ghost use Rattle.std.specs.Prelude.{◌≡◌, not};
+ghost use Rattle.std.specs.Prelude.{◌≡◌};
 ghost use Rattle.std.specs.List.{find};
-ghost use Rattle.plant_script.specs.Plan.{no_failures, failed_at, with_failure, is_not_later, breaks_order, after_what, is_switched, is_comeback};
+ghost use Rattle.plant_script.specs.Plan.{no_failures, failed_at, with_failure, is_not_later, breaks_order, after_what, is_comeback};
 ghost use Rattle.plant_script.specs.SecondPass.{event_fault, events_fault, unbuilt_line};
 
 use crate::first_pass::fault_at;
-use crate::plan::{Event, Module, ModuleKind, What};
+use crate::plan::{Event, What};
 use crate::script_error::{BAD_TIME, FAIL_RETURN_ORDER, ScriptFault};
 use s7_events::Side;
 
@@ -90,26 +90,6 @@ pub fn events_fault(end: u32, events: &[Event]) -> Option<ScriptFault>
     None
 }
 
-/// Returns whether the module is reached by whichever side runs.
-fn is_switched(kind: ModuleKind) -> bool
-    ensures { result ≡ is_switched kind }
-{
-    match kind {
-        ModuleKind::Switched => true,
-        ModuleKind::OneSided(_) | ModuleKind::Redundant(_) => false,
-    }
-}
-
-/// Returns the first module that is not SWITCHED.
-fn unswitched(modules: &[Module]) -> Option<Module>
-    ensures { result ≡ find (λ m. not (is_switched m.kind)) modules.now }
-{
-    modules
-        .iter()
-        .copied()
-        .find(|module| !is_switched(module.kind))
-}
-
 /// Returns the first RETURN or SUSPECT line.
 fn comeback(events: &[Event]) -> Option<Event>
     ensures { result ≡ find (λ event. is_comeback event.what) events.now }
@@ -120,16 +100,13 @@ fn comeback(events: &[Event]) -> Option<Event>
         .find(|event| event.what.is_comeback())
 }
 
-/// Returns the line of the first module that is not SWITCHED, else that of the first RETURN or SUSPECT line.
+/// Returns the line of the first RETURN or SUSPECT line.
 #[tactic(auto, unfolding(crate::specs::SecondPass::unbuilt_line))]
-pub fn unbuilt_line(modules: &[Module], events: &[Event]) -> Option<u32>
-    ensures { result ≡ unbuilt_line modules.now events.now }
+pub fn unbuilt_line(events: &[Event]) -> Option<u32>
+    ensures { result ≡ unbuilt_line events.now }
 {
-    match unswitched(modules) {
-        Some(module) => Some(module.line),
-        None => match comeback(events) {
-            Some(event) => Some(event.line),
-            None => None,
-        },
+    match comeback(events) {
+        Some(event) => Some(event.line),
+        None => None,
     }
 }

@@ -1,6 +1,6 @@
 -- No statement begins or ends a block.
-use Rattle.std.proofs.Common.{◌≡◌, ℕ, Bool, true, false, List, Option, Some, None, Result, Ok, Err, refl, ◌∙◌}
-use Rattle.std.specs.Prelude.{◌+◌, ◌%◌, ◌&&◌, not, nat_le, length, is_some, if◌then◌else◌}
+use Rattle.std.proofs.Common.{◌≡◌, ℕ, Bool, true, false, Option, Some, None, Result, Ok, Err, refl, ◌∙◌}
+use Rattle.std.specs.Prelude.{◌+◌, ◌%◌, ◌&&◌, not, nat_le, length, is_some}
 use Rattle.std.proofs.lemmas.Bool.{cond_both}
 use Rattle.instruction_set.specs.declared.operation.BitWrite.TheVariants as writes
 use Rattle.s5_time.specs.Bcd.{is_bcd}
@@ -34,7 +34,7 @@ use Rattle.statement_effects.specs.declared.instruction.DataInstruction.TheVaria
 use Rattle.statement_effects.specs.declared.instruction.Instruction.{Instruction}
 use Rattle.statement_effects.specs.declared.instruction.Instruction.TheVariants as groups
 use Rattle.statement_effects.specs.Areas.{data_length, with_bit_at, with_value_at, bytes_in, low_part, local_value, is_off}
-use Rattle.statement_effects.specs.Resolving.{in_locals, data_number, with_named, in_bytes, in_block, in_data, placed, resolve_bit, resolve_value, at_bit, at_value}
+use Rattle.statement_effects.specs.Resolving.{data_number, with_named, in_bytes, in_block, in_data, placed, resolve_bit, resolve_value, at_bit, at_value}
 use Rattle.statement_effects.specs.BitEffect.{with_bit_where, effect_bit, effect_group}
 use Rattle.statement_effects.specs.MoveEffect.{effect_move, effect_direct, transferred}
 use Rattle.statement_effects.specs.NumberEffect.{effect_number}
@@ -178,6 +178,8 @@ effect_begun (groups.Timer op n) m = refl
 effect_begun (groups.Timed op n) m = refl
 effect_begun (groups.Counter op n) m = onward_begun m (effect_counter op n m) (counter_begun op n m)
 effect_begun (groups.Data i) m = onward_begun m (effect_data i m) (data_begun i m)
+effect_begun (groups.ReadPeripheral access) m = refl
+effect_begun (groups.WritePeripheral access) m = refl
 effect_begun (groups.Call callee) m = refl
 effect_begun (groups.CallInstance callee number) m = refl
 effect_begun (groups.CallWhenSet callee) m = refl

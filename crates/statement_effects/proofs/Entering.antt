@@ -1,6 +1,6 @@
 -- A block begins exactly where there is depth and local data for it.
 use Rattle.std.proofs.Common.{◌≡◌, ℕ, ◌+◌, ◌<◌, ◌≤◌, length, Result, Ok, Err, inl, inr, refl, sym, ap, arith}
-use Rattle.std.specs.Prelude.{◌↔◌, ◌==◌, nat_lt, if◌then◌else◌}
+use Rattle.std.specs.Prelude.{◌↔◌}
 use Rattle.std.proofs.lemmas.Bool.{cases_lt, eq-eqb, ne_eqb, lt-ltb, le-ltb}
 use Rattle.s7_base.specs.declared.blocks.BlockRef.{BlockRef}
 use Rattle.level_stack.specs.declared.level.LevelFault.{LevelFault}

@@ -1,5 +1,5 @@
 -- What a job does where its bytes are there, and where they are not.
-use Rattle.std.proofs.Common.{◌≡◌, ℕ, ◌+◌, ◌*◌, ◌^◌, ◌<◌, ◌≤◌, ◌==◌, ◌&&◌, ◌||◌, List, length, IsTrue, Option, Some, None, sym, ap, arith}
+use Rattle.std.proofs.Common.{◌≡◌, ℕ, ◌+◌, ◌*◌, ◌^◌, ◌<◌, ◌≤◌, List, length, IsTrue, Option, Some, None, sym, ap, arith}
 use Rattle.std.specs.Option.{option_map}
 use Rattle.std.proofs.lemmas.List.{get_or_past}
 use Rattle.s7_events.specs.declared.entry.Job.{Job}
@@ -7,7 +7,7 @@ use Rattle.s7_events.specs.declared.entry.JobArea.{JobArea}
 use Rattle.s7_events.specs.declared.entry.JobArea.TheVariants as job_areas
 use Rattle.s7_events.specs.Fitting.{is_job}
 use Rattle.cpu_image.specs.Values.{IsWidth}
-use Rattle.cpu_image.specs.Image.{Image, bytes_in, bytes_of, area_bytes}
+use Rattle.cpu_image.specs.Image.{Image, bytes_in, bytes_of}
 use Rattle.cpu_image.specs.Pages.{HasSizes}
 use Rattle.statement_effects.specs.State.{Memory}
 use Rattle.statement_effects.specs.JobEffect.{job_area, IsNoBlock, job_length, job_in, job_done, IsThere}

@@ -3,4 +3,4 @@ pub mod Entering
 pub mod JobBytes
 pub mod Operands
 pub mod Places
-pub mod SupportedMeans
+pub mod StatementsMean

@@ -1,8 +1,8 @@
--- Each operand that is allowed and is supported is decoded, and is of a form that its kind allows.
+-- Each operand that is allowed is decoded, and is of a form that its kind allows.
 use Rattle.std.proofs.Common.{◌≡◌, ℕ, ◌+◌, ◌<◌, ◌≤◌, Bool, true, false, ◌&&◌, ◌||◌, Option, Some, None, refl, ap, subst, inl, inr, arith}
 use Rattle.std.specs.Prelude.{◌⊎◌, ◌==◌, is_some, nat_lt, nat_le}
 use Rattle.std.specs.Option.{option_map, option_or}
-use Rattle.std.proofs.lemmas.Bool.{both_ways, and_parts, or_cases, or_parts, eqb-true, ne_eqb, cases_eq, leb-true, ltb-true, lt-ltb, le-leb}
+use Rattle.std.proofs.lemmas.Bool.{and_parts, or_cases, eqb-true, ne_eqb, cases_eq, leb-true, ltb-true, lt-ltb, le-leb}
 use Rattle.s7_base.specs.declared.statement.Statement.{Statement}
 use Rattle.s7_base.specs.declared.blocks.BlockRef.{BlockRef}
 use Rattle.s7_base.specs.declared.blocks.CodeKind.TheVariants.{Fb, Fc}
@@ -13,11 +13,11 @@ use Rattle.instruction_set.specs.declared.operands.OperandArea.{OperandArea}
 use Rattle.instruction_set.specs.declared.operands.OperandArea.TheVariants as areas
 use Rattle.instruction_set.specs.Areas.{area_number}
 use Rattle.s7_base.specs.Operands.{is_in, is_data_number, ends_by, is_within, is_of_cpu, is_of_data, is_memory, is_bit, unit_bytes, is_value, is_peripheral, is_number, is_up_to, is_exactly, is_timer_or_counter, is_constant, is_about_data, allows}
-use Rattle.statement_effects.specs.Supported.{is_elsewhere}
 use Rattle.s7_events.specs.Optional.{◌>>=◌}
 use Rattle.cpu_image.specs.declared.area.ByteArea.TheVariants.{I, Q, M}
 use Rattle.statement_effects.specs.declared.instruction.Width.{Width}
 use Rattle.statement_effects.specs.declared.instruction.Width.TheVariants as widths
+use Rattle.statement_effects.specs.declared.instruction.Access.{Access}
 use Rattle.statement_effects.specs.declared.instruction.DataBlockName.{DataBlockName}
 use Rattle.statement_effects.specs.declared.instruction.DataBlockName.TheVariants.{Opened, Instance, Numbered}
 use Rattle.statement_effects.specs.declared.instruction.DataNumber.{DataNumber}
@@ -32,15 +32,7 @@ use Rattle.statement_effects.specs.declared.instruction.StatusInstruction.TheVar
 use Rattle.statement_effects.specs.declared.instruction.Instruction.{Instruction}
 use Rattle.statement_effects.specs.declared.instruction.Instruction.TheVariants as groups
 use Rattle.statement_effects.specs.Decoding.{width_of, operand_of, operand_for}
-use Rattle.statement_effects.specs.Reading.{bit_of, move_of, timer_of, timed_of, counter_of, status_check_of, with_word, with_double_word, with_target, with_block, with_block_and_data, with_data_block, with_instance_block, with_data_number, means}
-
--- the operand is none of the places that are not supported
-pub record IsHere (s : Statement) : Type 0 where
-  input : is_in areas.PeripheralIn s ≡ false
-  output : is_in areas.PeripheralOut s ≡ false
-
-pub is_here : (s : Statement) → is_elsewhere s ≡ false → IsHere s
-is_here s out = let parts = or_parts (is_in areas.PeripheralIn s) (is_in areas.PeripheralOut s) out in record { input = parts.0; output = parts.1 }
+use Rattle.statement_effects.specs.Reading.{bit_of, move_of, timer_of, timed_of, counter_of, status_check_of, with_word, with_double_word, with_target, with_block, with_block_and_data, with_data_block, with_instance_block, with_data_number, with_input_access, with_output_access, means}
 
 -- the operand names this area, and so many bytes of it
 record IsIn (number size bytes : ℕ) (s : Statement) : Type 0 where
@@ -171,11 +163,19 @@ exactly_in area number s h = (and_parts (is_in area s) (s.bit == 0) (and_parts (
 exactly_named : (area : OperandArea) (number : ℕ) (s : Statement) → is_exactly area number s ≡ true → s.area ≡ area_number area
 exactly_named area number s h = eqb-true s.area (area_number area) (exactly_in area number s h)
 
-peripheral_in : (area : OperandArea) (s : Statement) → is_peripheral area s ≡ true → is_in area s ≡ true
-peripheral_in area s h =
-    (and_parts (is_in area s) (ends_by 1024 (unit_bytes s.bit) s)
-    (and_parts (nat_lt 0 (unit_bytes s.bit)) (is_within area 1024 (unit_bytes s.bit) s)
-    (and_parts (nat_lt 0 (unit_bytes s.bit) && is_within area 1024 (unit_bytes s.bit) s) (s.db == 0) h).0).1).0
+-- the operand names a value of the peripherals
+record IsAccess (number : ℕ) (s : Statement) : Type 0 where
+  area : s.area ≡ number
+  fits : nat_le s.value 65535 ≡ true
+  unit : nat_lt 0 (unit_bytes s.bit) ≡ true
+
+accessed : (area : OperandArea) (s : Statement) → is_peripheral area s ≡ true → IsAccess (area_number area) s
+accessed area s h =
+    let parts = and_parts (nat_lt 0 (unit_bytes s.bit)) (is_within area 1024 (unit_bytes s.bit) s)
+    (and_parts (nat_lt 0 (unit_bytes s.bit) && is_within area 1024 (unit_bytes s.bit) s) (s.db == 0) h).0 in
+    let here = within area 1024 (unit_bytes s.bit) s parts.1 in
+    let le : s.value + unit_bytes s.bit ≤ 1024 = leb-true (s.value + unit_bytes s.bit) 1024 here.fits in
+    record { area = here.area; fits = le-leb s.value 65535 (omega arith); unit = parts.0 }
 
 -- what an operation means --
 
@@ -189,7 +189,10 @@ no_bit = bits.Area (record { area = I; at_byte = 0; bit = 0 })
 abbrev no_value : ValueOperand
 no_value = values.Area (record { area = I; at_byte = 0; width = widths.Byte })
 
--- with each form of operand that a kind allows, and is supported
+abbrev no_access : Access
+no_access = record { addr = 0; width = widths.Byte }
+
+-- with each form of operand that a kind allows
 abbrev pub takes_all : OperandKind → Operation → Bool
 takes_all kinds.Nothing op = takes op operands.Nothing
 takes_all kinds.CheckedBit op =
@@ -199,10 +202,11 @@ takes_all kinds.SetBit op = takes op (operands.Bit no_bit) && takes op (operands
 takes_all kinds.ResetBit op = takes op (operands.Bit no_bit) && (takes op (operands.Timer 0) && takes op (operands.Counter 0))
 takes_all kinds.Loaded op =
     takes op (operands.Value no_value)
+    && (takes op (operands.PeripheralIn no_access)
     && (takes op (operands.Word 0)
     && (takes op (operands.DoubleWord 0)
-    && (takes op (operands.Timer 0) && (takes op (operands.Counter 0) && (takes op operands.StatusWord && takes op (operands.DataNumber numbers.Length))))))
-takes_all kinds.Stored op = takes op (operands.Value no_value) && takes op operands.StatusWord
+    && (takes op (operands.Timer 0) && (takes op (operands.Counter 0) && (takes op operands.StatusWord && takes op (operands.DataNumber numbers.Length)))))))
+takes_all kinds.Stored op = takes op (operands.Value no_value) && (takes op (operands.PeripheralOut no_access) && takes op operands.StatusWord)
 takes_all kinds.Coded op = takes op (operands.Timer 0) && takes op (operands.Counter 0)
 takes_all kinds.Addend op = takes op (operands.Word 0) && takes op (operands.DoubleWord 0)
 takes_all (kinds.UpTo most) op = nat_le most 65535 && takes op (operands.Word 0)
@@ -236,6 +240,12 @@ bit_any op place h = some_map (λ i. groups.Bit i no_bit) (λ i. groups.Bit i pl
 
 value_any : (op : Operation) (place : ValueOperand) → takes op (operands.Value no_value) ≡ true → takes op (operands.Value place) ≡ true
 value_any op place h = some_map (λ i. groups.Move i no_value) (λ i. groups.Move i place) (move_of op) h
+
+input_any : (op : Operation) (access : Access) → takes op (operands.PeripheralIn no_access) ≡ true → takes op (operands.PeripheralIn access) ≡ true
+input_any op access h = some_map (λ (f : Access → Instruction). f no_access) (λ (f : Access → Instruction). f access) (with_input_access op) h
+
+output_any : (op : Operation) (access : Access) → takes op (operands.PeripheralOut no_access) ≡ true → takes op (operands.PeripheralOut access) ≡ true
+output_any op access h = some_map (λ (f : Access → Instruction). f no_access) (λ (f : Access → Instruction). f access) (with_output_access op) h
 
 timer_any : (op : Operation) (n : ℕ) → takes op (operands.Timer 0) ≡ true → takes op (operands.Timer n) ≡ true
 timer_any op n h =
@@ -349,6 +359,22 @@ value op locals s h small allowed =
       ]
     ]
 
+input : (op : Operation) (s : Statement) → takes op (operands.PeripheralIn no_access) ≡ true → IsAccess 7 s → Reads op s
+input op s h a =
+    let read = λ (width : Width). input_any op (record { addr = s.value; width = width }) h in
+    elim (units s.bit a.unit) [
+      | inl e ↦ rw (a.area, a.fits, e) (read widths.Byte)
+      | inr r ↦ elim r [ inl e ↦ rw (a.area, a.fits, e) (read widths.Word) | inr e ↦ rw (a.area, a.fits, e) (read widths.Double) ]
+    ]
+
+output : (op : Operation) (s : Statement) → takes op (operands.PeripheralOut no_access) ≡ true → IsAccess 8 s → Reads op s
+output op s h a =
+    let write = λ (width : Width). output_any op (record { addr = s.value; width = width }) h in
+    elim (units s.bit a.unit) [
+      | inl e ↦ rw (a.area, a.fits, e) (write widths.Byte)
+      | inr r ↦ elim r [ inl e ↦ rw (a.area, a.fits, e) (write widths.Word) | inr e ↦ rw (a.area, a.fits, e) (write widths.Double) ]
+    ]
+
 data_number : (op : Operation) (s : Statement) → takes op (operands.DataNumber numbers.Length) ≡ true → is_about_data s ≡ true → Reads op s
 data_number op s t h =
     let a = is_exactly areas.DataLength 0 s in
@@ -416,10 +442,11 @@ constant op s hw hd allowed =
       | inr x ↦ double op s hd (named areas.DoubleWord s x)
     ]
 
-loaded : (op : Operation) (locals : ℕ) (s : Statement) → takes_all kinds.Loaded op ≡ true → locals ≤ 256 → IsHere s → allows kinds.Loaded locals s ≡ true → Reads op s
-loaded op locals s t small out h =
+loaded : (op : Operation) (locals : ℕ) (s : Statement) → takes_all kinds.Loaded op ≡ true → locals ≤ 256 → allows kinds.Loaded locals s ≡ true → Reads op s
+loaded op locals s t small h =
     let t0 = and_parts (takes op (operands.Value no_value)) _ t in
-    let t1 = and_parts (takes op (operands.Word 0)) _ t0.1 in
+    let tp = and_parts (takes op (operands.PeripheralIn no_access)) _ t0.1 in
+    let t1 = and_parts (takes op (operands.Word 0)) _ tp.1 in
     let t2 = and_parts (takes op (operands.DoubleWord 0)) _ t1.1 in
     let t3 = and_parts (takes op (operands.Timer 0)) _ t2.1 in
     let t4 = and_parts (takes op (operands.Counter 0)) _ t3.1 in
@@ -435,7 +462,7 @@ loaded op locals s t small out h =
           | inl x ↦ elim (or_cases (a || b) c x) [
             | inl y ↦ elim (or_cases a b y) [
               | inl z ↦ value op locals s t0.0 small z
-              | inr z ↦ absurd (both_ways (is_in areas.PeripheralIn s) out.input (peripheral_in areas.PeripheralIn s z))
+              | inr z ↦ input op s tp.0 (accessed areas.PeripheralIn s z)
             ]
             | inr y ↦ constant op s t1.0 t2.0 y
           ]
@@ -446,15 +473,16 @@ loaded op locals s t small out h =
       | inr v ↦ data_number op s t5.1 v
     ]
 
-stored : (op : Operation) (locals : ℕ) (s : Statement) → takes_all kinds.Stored op ≡ true → locals ≤ 256 → IsHere s → allows kinds.Stored locals s ≡ true → Reads op s
-stored op locals s t small out h =
-    let parts = and_parts (takes op (operands.Value no_value)) (takes op operands.StatusWord) t in
+stored : (op : Operation) (locals : ℕ) (s : Statement) → takes_all kinds.Stored op ≡ true → locals ≤ 256 → allows kinds.Stored locals s ≡ true → Reads op s
+stored op locals s t small h =
+    let parts = and_parts (takes op (operands.Value no_value)) _ t in
+    let rest = and_parts (takes op (operands.PeripheralOut no_access)) (takes op operands.StatusWord) parts.1 in
     elim (or_cases (is_value locals s || is_peripheral areas.PeripheralOut s) (is_exactly areas.StatusWord 0 s) h) [
       | inl x ↦ elim (or_cases (is_value locals s) (is_peripheral areas.PeripheralOut s) x) [
         | inl y ↦ value op locals s parts.0 small y
-        | inr y ↦ absurd (both_ways (is_in areas.PeripheralOut s) out.output (peripheral_in areas.PeripheralOut s y))
+        | inr y ↦ output op s rest.0 (accessed areas.PeripheralOut s y)
       ]
-      | inr x ↦ status_word op s parts.1 (exactly_named areas.StatusWord 0 s x)
+      | inr x ↦ status_word op s rest.1 (exactly_named areas.StatusWord 0 s x)
     ]
 
 checked : (op : Operation) (locals : ℕ) (s : Statement) → takes_all kinds.CheckedBit op ≡ true → locals ≤ 256 → allows kinds.CheckedBit locals s ≡ true → Reads op s
@@ -490,55 +518,55 @@ with_data op s t h =
     rw (area, p1.1, number) (with_data_any op (record { kind = Fb; number = 0 }) (record { kind = Fb; number = s.value }) 0 s.db t)
 
 -- an operation that takes each form of a kind means an instruction with each operand of the kind
-pub reads : (kind : OperandKind) (op : Operation) (locals : ℕ) (s : Statement) → takes_all kind op ≡ true → locals ≤ 256 → IsHere s → allows kind locals s ≡ true → ReadsAs kind op s
-reads kinds.Nothing op locals s t small out h = alone op s t (exactly_named areas.Nothing 0 s h)
-reads kinds.CheckedBit op locals s t small out h = checked op locals s t small h
-reads kinds.WrittenBit op locals s t small out h = bit op locals s t small h
-reads kinds.SetBit op locals s t small out h =
+pub reads : (kind : OperandKind) (op : Operation) (locals : ℕ) (s : Statement) → takes_all kind op ≡ true → locals ≤ 256 → allows kind locals s ≡ true → ReadsAs kind op s
+reads kinds.Nothing op locals s t small h = alone op s t (exactly_named areas.Nothing 0 s h)
+reads kinds.CheckedBit op locals s t small h = checked op locals s t small h
+reads kinds.WrittenBit op locals s t small h = bit op locals s t small h
+reads kinds.SetBit op locals s t small h =
     let parts = and_parts (takes op (operands.Bit no_bit)) (takes op (operands.Counter 0)) t in
     elim (or_cases (is_bit locals s) (is_up_to areas.Counter 255 s) h) [
       | inl b ↦ bit op locals s parts.0 small b
       | inr c ↦ counter op s parts.1 (numbered areas.Counter 255 s c)
     ]
-reads kinds.ResetBit op locals s t small out h =
+reads kinds.ResetBit op locals s t small h =
     let t0 = and_parts (takes op (operands.Bit no_bit)) _ t in
     let t1 = and_parts (takes op (operands.Timer 0)) (takes op (operands.Counter 0)) t0.1 in
     elim (or_cases (is_bit locals s) (is_timer_or_counter s) h) [
       | inl b ↦ bit op locals s t0.0 small b
       | inr y ↦ timer_or_counter op s t1.0 t1.1 y
     ]
-reads kinds.Loaded op locals s t small out h = loaded op locals s t small out h
-reads kinds.Stored op locals s t small out h = stored op locals s t small out h
-reads kinds.Coded op locals s t small out h =
+reads kinds.Loaded op locals s t small h = loaded op locals s t small h
+reads kinds.Stored op locals s t small h = stored op locals s t small h
+reads kinds.Coded op locals s t small h =
     let parts = and_parts (takes op (operands.Timer 0)) (takes op (operands.Counter 0)) t in timer_or_counter op s parts.0 parts.1 h
-reads kinds.Addend op locals s t small out h =
+reads kinds.Addend op locals s t small h =
     let parts = and_parts (takes op (operands.Word 0)) (takes op (operands.DoubleWord 0)) t in constant op s parts.0 parts.1 h
-reads (kinds.UpTo most) op locals s t small out h =
+reads (kinds.UpTo most) op locals s t small h =
     let parts = and_parts (nat_le most 65535) (takes op (operands.Word 0)) t in word_up_to op most s parts.1 (leb-true most 65535 parts.0) h
-reads (kinds.Exactly number) op locals s t small out h =
+reads (kinds.Exactly number) op locals s t small h =
     let parts = and_parts (nat_le number 65535) (takes op (operands.Word 0)) t in
     let e : s.value ≡ number = eqb-true s.value number (and_parts (is_number areas.Word s) (s.value == number) h).1 in
     let le : number ≤ 65535 = leb-true number 65535 parts.0 in
     word op s parts.1 (record { area = exactly_named areas.Word number s h; fits = le-leb s.value 65535 (omega arith) })
-reads (kinds.AtMost most) op locals s t small out h =
+reads (kinds.AtMost most) op locals s t small h =
     let t0 = and_parts (nat_le most 65535) _ t in
     let t1 = and_parts (takes op operands.Nothing) (takes op (operands.Word 0)) t0.1 in
     elim (or_cases (is_exactly areas.Nothing 0 s) (is_up_to areas.Word most s) h) [
       | inl x ↦ alone op s t1.0 (exactly_named areas.Nothing 0 s x)
       | inr x ↦ word_up_to op most s t1.1 (leb-true most 65535 t0.0) x
     ]
-reads kinds.Mask op locals s t small out h =
+reads kinds.Mask op locals s t small h =
     let parts = and_parts (takes op operands.Nothing) (takes op (operands.DoubleWord 0)) t in
     elim (or_cases (is_exactly areas.Nothing 0 s) (is_number areas.DoubleWord s) h) [
       | inl x ↦ alone op s parts.0 (exactly_named areas.Nothing 0 s x)
       | inr x ↦ double op s parts.1 (named areas.DoubleWord s x)
     ]
-reads kinds.Target op locals s t small out h = target op s t (named areas.Target s h)
-reads kinds.Timer op locals s t small out h = timer op s t (numbered areas.Timer 255 s h)
-reads kinds.Counter op locals s t small out h = counter op s t (numbered areas.Counter 255 s h)
-reads kinds.DataBlock op locals s t small out h = let n = opening areas.Data s h in rw (n.area, n.fits) (data_block_any op s.value t)
-reads kinds.InstanceBlock op locals s t small out h = let n = opening areas.Instance s h in rw (n.area, n.fits) (instance_block_any op s.value t)
-reads kinds.Function op locals s t small out h = function op s t (numbered areas.Function 255 s h)
-reads kinds.FunctionBlock op locals s t small out h = function_block op s t (numbered areas.FunctionBlock 255 s h)
-reads kinds.FunctionBlockWithData op locals s t small out h = with_data op s t h
-reads (kinds.SystemFunction number) op locals s t small out h = system_function op s t (exactly_named areas.SystemFunction number s h)
+reads kinds.Target op locals s t small h = target op s t (named areas.Target s h)
+reads kinds.Timer op locals s t small h = timer op s t (numbered areas.Timer 255 s h)
+reads kinds.Counter op locals s t small h = counter op s t (numbered areas.Counter 255 s h)
+reads kinds.DataBlock op locals s t small h = let n = opening areas.Data s h in rw (n.area, n.fits) (data_block_any op s.value t)
+reads kinds.InstanceBlock op locals s t small h = let n = opening areas.Instance s h in rw (n.area, n.fits) (instance_block_any op s.value t)
+reads kinds.Function op locals s t small h = function op s t (numbered areas.Function 255 s h)
+reads kinds.FunctionBlock op locals s t small h = function_block op s t (numbered areas.FunctionBlock 255 s h)
+reads kinds.FunctionBlockWithData op locals s t small h = with_data op s t h
+reads (kinds.SystemFunction number) op locals s t small h = system_function op s t (exactly_named areas.SystemFunction number s h)

@@ -1,5 +1,5 @@
 -- The places of areas: those that are always there, and those that were found.
-use Rattle.std.proofs.Common.{◌≡◌, ℕ, ◌+◌, ◌<◌, ◌≤◌, List, length, IsSomeAnd, Option, Some, None, ap, arith}
+use Rattle.std.proofs.Common.{ℕ, ◌<◌, ◌≤◌, List, length, IsSomeAnd, Option, Some, None, ap, arith}
 use Rattle.cpu_image.specs.declared.area.ByteArea.{ByteArea}
 use Rattle.cpu_image.specs.declared.area.ByteArea.TheVariants.{I, Q, M, Db}
 use Rattle.cpu_image.specs.Image.{Image, bytes_in, bytes_of, area_bytes, IsMissing, EndsBefore}

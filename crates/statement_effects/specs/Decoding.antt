@@ -14,6 +14,7 @@ use Rattle.cpu_image.specs.declared.area.ByteArea.{ByteArea}
 use Rattle.cpu_image.specs.declared.area.ByteArea.TheVariants.{I, Q, M}
 use Rattle.statement_effects.specs.declared.instruction.Width.{Width}
 use Rattle.statement_effects.specs.declared.instruction.Width.TheVariants as widths
+use Rattle.statement_effects.specs.declared.instruction.Access.{Access}
 use Rattle.statement_effects.specs.declared.instruction.DataBlockName.{DataBlockName}
 use Rattle.statement_effects.specs.declared.instruction.DataBlockName.TheVariants.{Opened, Instance, Numbered}
 use Rattle.statement_effects.specs.declared.instruction.DataNumber.TheVariants as numbers
@@ -72,6 +73,13 @@ data_operand s block =
 abbrev pub named_data_operand : Statement → Option Operand
 named_data_operand s = data_block_of s >>= data_operand s
 
+abbrev pub access_at : ℕ → Width → Access
+access_at addr width = record { addr = addr; width = width }
+
+-- a value of the peripherals, which are known by an address of 16 bits
+abbrev pub access_of : Statement → Option Access
+access_of s = if nat_le s.value 65535 then option_map (access_at s.value) (width_of s.bit) else None
+
 -- a number or a constant, at most this
 abbrev pub up_to : ℕ → (ℕ → Operand) → Statement → Option Operand
 up_to most operand s = if nat_le s.value most then Some (operand s.value) else None
@@ -105,7 +113,7 @@ other_operand s =
     else if is_in areas.SystemFunction s then Some operands.SystemFunction
     else data_number_of s
 
--- the operand of its area, if it is one that is supported
+-- the operand of its area
 abbrev pub operand_of : Statement → Option Operand
 operand_of s =
     if is_in areas.Inputs s then byte_operand I s
@@ -114,6 +122,8 @@ operand_of s =
     else if is_in areas.Local s then local_operand s
     else if is_in areas.Data s then named_data_operand s
     else if is_in areas.Instance s then data_operand s Instance
+    else if is_in areas.PeripheralIn s then option_map operands.PeripheralIn (access_of s)
+    else if is_in areas.PeripheralOut s then option_map operands.PeripheralOut (access_of s)
     else other_operand s
 
 -- the data block that is opened, whose number is stored in this area

@@ -6,7 +6,7 @@ use Rattle.statement_effects.specs.State.{Memory}
 use Rattle.statement_effects.specs.declared.instruction.Instruction.{Instruction}
 use Rattle.statement_effects.specs.declared.instruction.Instruction.TheVariants as groups
 use Rattle.statement_effects.specs.declared.instruction.Flow.{Flow}
-use Rattle.statement_effects.specs.declared.instruction.Flow.TheVariants.{Next, Call, CallInstance, End, Fail, AskNow, AskRetrigger, Stop}
+use Rattle.statement_effects.specs.declared.instruction.Flow.TheVariants.{Next, Call, CallInstance, End, Fail, AskNow, AskRetrigger, AskRead, AskWrite, Stop}
 use Rattle.statement_effects.specs.Areas.{with_registers, with_status, with_accus}
 use Rattle.statement_effects.specs.Resolving.{resolve_bit, resolve_value, at_bit, at_value}
 use Rattle.statement_effects.specs.BitEffect.{effect_bit, effect_status, effect_group}
@@ -45,6 +45,8 @@ effect (groups.Timer op n) memory = (effect_timer op n memory, Next)
 effect (groups.Timed op n) memory = (memory, AskNow)
 effect (groups.Counter op n) memory = onward memory (effect_counter op n memory)
 effect (groups.Data i) memory = onward memory (effect_data i memory)
+effect (groups.ReadPeripheral access) memory = (memory, AskRead access)
+effect (groups.WritePeripheral access) memory = (memory, AskWrite access)
 effect (groups.Call callee) memory = (memory, Call callee)
 effect (groups.CallInstance callee number) memory = (memory, CallInstance callee number)
 effect (groups.CallWhenSet callee) memory = led memory (effect_call_when_set callee memory.registers)
@@ -58,6 +60,8 @@ effect groups.Nothing memory = (memory, Next)
 abbrev pub asks_first : Flow → Bool
 asks_first AskNow = true
 asks_first AskRetrigger = true
+asks_first (AskRead access) = true
+asks_first (AskWrite access) = true
 asks_first _ = false
 
 -- a stored form that is no statement does nothing; well-formed blocks have none

@@ -1,3 +1,4 @@
+pub mod AccessEffect
 pub mod Areas
 pub mod BitEffect
 pub mod CounterEffect
@@ -13,5 +14,5 @@ pub mod Placed
 pub mod Reading
 pub mod Resolving
 pub mod State
-pub mod Supported
+pub mod Statements
 pub mod TimerEffect

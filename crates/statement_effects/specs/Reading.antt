@@ -34,6 +34,7 @@ use Rattle.statement_effects.specs.declared.instruction.CounterOperation.{Counte
 use Rattle.statement_effects.specs.declared.instruction.CounterOperation.TheVariants as counter_ops
 use Rattle.statement_effects.specs.declared.instruction.DataNumber.{DataNumber}
 use Rattle.statement_effects.specs.declared.instruction.DataInstruction.TheVariants as data_blocks
+use Rattle.statement_effects.specs.declared.instruction.Access.{Access}
 use Rattle.statement_effects.specs.declared.instruction.Instruction.{Instruction}
 use Rattle.statement_effects.specs.declared.instruction.Instruction.TheVariants as groups
 use Rattle.statement_effects.specs.declared.instruction.Operand.{Operand}
@@ -59,6 +60,16 @@ abbrev pub move_of : Operation → Option MoveInstruction
 move_of operations.Load = Some moves.Load
 move_of operations.Transfer = Some moves.Store
 move_of _ = None
+
+-- with a value of the peripheral inputs
+abbrev pub with_input_access : Operation → Option (Access → Instruction)
+with_input_access operations.Load = Some groups.ReadPeripheral
+with_input_access _ = None
+
+-- with a value of the peripheral outputs
+abbrev pub with_output_access : Operation → Option (Access → Instruction)
+with_output_access operations.Transfer = Some groups.WritePeripheral
+with_output_access _ = None
 
 -- with the status word
 abbrev pub status_word_of : Operation → Option Instruction
@@ -182,6 +193,8 @@ abbrev pub means : Operation → Operand → Option Instruction
 means op operands.Nothing = alone op
 means op (operands.Bit place) = option_map (λ i. groups.Bit i place) (bit_of op)
 means op (operands.Value place) = option_map (λ i. groups.Move i place) (move_of op)
+means op (operands.PeripheralIn access) = option_map (λ instruction. instruction access) (with_input_access op)
+means op (operands.PeripheralOut access) = option_map (λ instruction. instruction access) (with_output_access op)
 means op (operands.Timer n) = option_or (option_map (λ i. groups.Timer i n) (timer_of op)) (option_map (λ i. groups.Timed i n) (timed_of op))
 means op (operands.Counter n) = option_map (λ i. groups.Counter i n) (counter_of op)
 means op (operands.Word word) = option_map (λ instruction. instruction word) (with_word op)
@@ -200,6 +213,6 @@ abbrev pub read_row : Option InstructionRow → Statement → Option Instruction
 read_row None s = None
 read_row (Some row) s = operand_for row.operand s >>= means row.operation
 
--- what a stored statement means, if it is one that is supported
+-- what a stored statement means, if it is one
 abbrev pub instruction_of : Statement → Option Instruction
 instruction_of s = read_row (row_of s.op) s

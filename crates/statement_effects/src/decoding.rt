@@ -4,13 +4,13 @@ ghost use Rattle.s7_base.specs.Operands.{is_in};
 ghost use Rattle.instruction_set.specs.declared.operands.OperandArea.TheVariants as areas;
 ghost use Rattle.level_stack.specs.Values.{IsWidth};
 ghost use Rattle.statement_effects.specs.Areas.{size_of, bytes_in};
-ghost use Rattle.statement_effects.specs.Decoding.{width_of, bit_operand, value_operand, byte_operand, local_operand, up_to, data_block_of, data_operand, named_data_operand, block_operand, data_number_of, other_operand, operand_of, opened_operand, block_with_data, operand_for};
+ghost use Rattle.statement_effects.specs.Decoding.{width_of, bit_operand, value_operand, byte_operand, local_operand, up_to, data_block_of, data_operand, named_data_operand, access_of, block_operand, data_number_of, other_operand, operand_of, opened_operand, block_with_data, operand_for};
 ghost use Rattle.statement_effects.specs.Placed.{IsOperand};
 ghost use Rattle.statement_effects.specs.declared.instruction.Operand.TheVariants as operands;
 
 use crate::instruction::{
-    BitOperand, BitPlace, DataBit, DataBlockName, DataNumber, DataValue, LocalBit, LocalValue,
-    Operand, ValueOperand, ValuePlace, Width,
+    Access, BitOperand, BitPlace, DataBit, DataBlockName, DataNumber, DataValue, LocalBit,
+    LocalValue, Operand, ValueOperand, ValuePlace, Width,
 };
 use cpu_image::ByteArea;
 use instruction_set::{OperandArea, OperandKind};
@@ -28,8 +28,8 @@ fn size_of(area: ByteArea) -> u16
 }
 
 impl Width {
-    /// How many bytes a value has.
-    pub(crate) fn bytes(self) -> u8
+    /// How many bytes a value has: 1, 2 or 4.
+    pub fn bytes(self) -> u8
         ensures bytes { result ≡ bytes_in self }
         ensures width { IsWidth result }
     {
@@ -161,6 +161,15 @@ fn named_data_operand(s: &Statement) -> Option<Operand>
     data_operand(s, block)
 }
 
+/// A value of the peripherals.
+fn access_of(s: &Statement) -> Option<Access>
+    ensures { result ≡ access_of s.now }
+{
+    let addr = u16::try_from(s.value).ok()?;
+    let width = width_of(s.bit)?;
+    Some(Access { addr, width })
+}
+
 fn timer_operand(s: &Statement) -> Option<Operand>
     ensures operand { result ≡ up_to 255 operands.Timer s.now }
     ensures placed { IfSome result IsOperand }
@@ -254,7 +263,7 @@ fn other_operand(s: &Statement) -> Option<Operand>
     }
 }
 
-/// The operand of a statement, as its area says, if it is one that is supported.
+/// The operand of a statement, as its area says.
 fn operand_of(s: &Statement) -> Option<Operand>
     ensures operand { result ≡ operand_of s.now }
     ensures placed { IfSome result IsOperand }
@@ -271,6 +280,12 @@ fn operand_of(s: &Statement) -> Option<Operand>
         named_data_operand(s)
     } else if is_in(s, OperandArea::Instance) {
         data_operand(s, DataBlockName::Instance)
+    } else if is_in(s, OperandArea::PeripheralIn) {
+        let access = access_of(s)?;
+        Some(Operand::PeripheralIn(access))
+    } else if is_in(s, OperandArea::PeripheralOut) {
+        let access = access_of(s)?;
+        Some(Operand::PeripheralOut(access))
     } else {
         other_operand(s)
     }
@@ -314,7 +329,7 @@ fn block_with_data(s: &Statement) -> Option<Operand>
     Some(Operand::BlockWithData(BlockRef { kind, number }, data))
 }
 
-/// The operand of an operation that takes this kind, if it is one that is supported.
+/// The operand of an operation that takes this kind.
 pub(crate) fn operand_for(kind: OperandKind, s: &Statement) -> Option<Operand>
     ensures operand { result ≡ operand_for kind s.now }
     ensures placed { IfSome result IsOperand }

@@ -42,6 +42,8 @@ impl Memory {
             Instruction::Timed(_, _) => return Flow::AskNow,
             Instruction::Counter(op, n) => return flow_of(self.execute_counter(op, n)),
             Instruction::Data(i) => return flow_of(self.execute_data(i)),
+            Instruction::ReadPeripheral(access) => return Flow::AskRead(access),
+            Instruction::WritePeripheral(access) => return Flow::AskWrite(access),
             Instruction::Call(callee) => return Flow::Call(callee),
             Instruction::CallInstance(callee, number) => {
                 return Flow::CallInstance(callee, number);

@@ -45,6 +45,13 @@ pub struct LocalValue {
     pub width: Width,
 }
 
+/// A direct access to the peripherals, by the address of its first byte, 0 to 65,535.
+#[derive(Clone, Copy, Debug, PartialEq, Eq)]
+pub struct Access {
+    pub addr: u16,
+    pub width: Width,
+}
+
 /// The data block that an operand names: the one that is opened as DB, or as DI, or that of a number, as `DBn.` does.
 #[derive(Clone, Copy, Debug, PartialEq, Eq)]
 pub enum DataBlockName {
@@ -98,6 +105,10 @@ pub enum Operand {
     Nothing,
     Bit(BitOperand),
     Value(ValueOperand),
+    /// A value of the peripheral inputs.
+    PeripheralIn(Access),
+    /// A value of the peripheral outputs.
+    PeripheralOut(Access),
     /// The timer of this number.
     Timer(u8),
     /// The counter of this number.
@@ -315,6 +326,10 @@ pub enum Instruction {
     /// A counter of this number.
     Counter(CounterOperation, u8),
     Data(DataInstruction),
+    /// `L PIB PIW PID`
+    ReadPeripheral(Access),
+    /// `T PQB PQW PQD`
+    WritePeripheral(Access),
     /// `CALL` of an FC, `UC`
     Call(BlockRef),
     /// `CALL` of an FB with the data block of a number, which it opens as DI
@@ -363,6 +378,10 @@ pub enum Flow {
     AskNow,
     /// It asks first to start the monitoring of the cycle anew.
     AskRetrigger,
+    /// It asks first for a value of the peripheral inputs.
+    AskRead(Access),
+    /// It asks first to write a value to the peripheral outputs.
+    AskWrite(Access),
     /// To the stop of the CPU, which it asks for. The statement is not completed.
     Stop,
 }

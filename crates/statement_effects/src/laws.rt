@@ -1,8 +1,7 @@
 //! A law of the definitions.
-ghost use Rattle.statement_effects.specs.Supported.{SupportedMeans};
+ghost use Rattle.statement_effects.specs.Statements.{StatementsMean};
 
-/// Each statement of the language that is supported means an instruction, so that in a program that is supported no statement
-/// is passed over.
-pub fn supported_statements_mean_instructions()
-    ensures { SupportedMeans }
+/// Each statement of the language means an instruction, so that in a program no statement is passed over.
+pub fn statements_mean_instructions()
+    ensures { StatementsMean }
 {}

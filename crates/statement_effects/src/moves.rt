@@ -69,7 +69,7 @@ impl Memory {
     }
 
     /// What `T` writes.
-    fn transferred(&self) -> u32
+    pub(crate) fn transferred(&self) -> u32
         ensures { result ≡ transferred self.now }
     {
         if self.is_off() {
@@ -79,7 +79,8 @@ impl Memory {
         }
     }
 
-    pub(crate) fn load(&mut self, value: u32)
+    /// `L` of a value: it moves ACCU1 to ACCU2 first.
+    pub fn load(&mut self, value: u32)
         ensures { self.new ≡ with_loaded self.old value }
     {
         self.registers.accus.load(value);

@@ -6,7 +6,7 @@ ghost use Rattle.statement_effects.specs.declared.instruction.Operand.TheVariant
 
 use crate::decoding::operand_for;
 use crate::instruction::{
-    AccuInstruction, BitInstruction, CounterOperation, DataInstruction, DataNumber,
+    Access, AccuInstruction, BitInstruction, CounterOperation, DataInstruction, DataNumber,
     DirectInstruction, GroupInstruction, Instruction, JumpInstruction, MoveInstruction,
     NumberInstruction, Operand, StatusInstruction, TimedOperation, TimerOperation, WordInstruction,
 };
@@ -44,6 +44,28 @@ fn move_of(op: Operation) -> Option<MoveInstruction>
     match op {
         Operation::Load => Some(MoveInstruction::Load),
         Operation::Transfer => Some(MoveInstruction::Store),
+        _ => None,
+    }
+}
+
+/// With a value of the peripheral inputs.
+fn with_input_access(op: Operation, access: Access) -> Option<Instruction>
+    ensures means { result ≡ means op (operands.PeripheralIn access) }
+    ensures placed { IfSome result HasOperand }
+{
+    match op {
+        Operation::Load => Some(Instruction::ReadPeripheral(access)),
+        _ => None,
+    }
+}
+
+/// With a value of the peripheral outputs.
+fn with_output_access(op: Operation, access: Access) -> Option<Instruction>
+    ensures means { result ≡ means op (operands.PeripheralOut access) }
+    ensures placed { IfSome result HasOperand }
+{
+    match op {
+        Operation::Transfer => Some(Instruction::WritePeripheral(access)),
         _ => None,
     }
 }
@@ -306,6 +328,8 @@ fn means(op: Operation, operand: Operand) -> Option<Instruction>
             let op = move_of(op)?;
             Some(Instruction::Move(op, place))
         }
+        Operand::PeripheralIn(access) => with_input_access(op, access),
+        Operand::PeripheralOut(access) => with_output_access(op, access),
         Operand::Timer(n) => with_timer(op, n),
         Operand::Counter(n) => {
             let op = counter_of(op)?;
@@ -328,8 +352,7 @@ fn means(op: Operation, operand: Operand) -> Option<Instruction>
     }
 }
 
-/// Returns what a stored statement means. None where it is no statement, or one that is not supported; a program that is
-/// played has none.
+/// Returns what a stored statement means. None where it is no statement; well-formed blocks have none.
 pub fn instruction_of(s: &Statement) -> Option<Instruction>
     ensures reads { result ≡ instruction_of s.now }
     ensures placed { IfSome result HasOperand }

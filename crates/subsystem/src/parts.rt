@@ -2,7 +2,6 @@
 ghost use Rattle.std.specs.Prelude.{◌≡◌, ◌<◌, ◌≤◌, ◌+◌, ◌^◌, ◌∷◌, [], ◌++◌, ◌↔◌, ℕ, false, List, length, slice_get, OnOk, OnErr, IfOk, IfSome, IsTrue};
 ghost use Rattle.std.specs.Option.{option_map};
 ghost use Rattle.s7_base.specs.Blocks.{Program};
-ghost use Rattle.mc_machine.specs.Runnable.{IsRunnable};
 ghost use Rattle.s7_events.specs.declared.entry.Answer.{Answer};
 ghost use Rattle.s7_events.specs.declared.entry.Request.{Request};
 ghost use Rattle.mc_machine.specs.Stands.{CanAsk, CanTake, IsDated, CanGoOn, IsAsked, IsIdle, WaitsAt, Stands, CpuWaits, CpuStopped, OfRunning, HasSizes, byte_of, block_length_of, counter_of, notes_of};
@@ -82,7 +81,6 @@ impl Subsystem {
     /// A new life begins with the first entry.
     pub fn load(&mut self, alloc: Global, blocks: &Blocks) -> Result<(), NoMemory>
         requires new { IsNew self.old }
-        requires runnable { IsRunnable blocks.now }
         ensures lives { OnOk result (self.new.lives ≡ first_life ∷ []) }
         ensures stands { OnOk result (Stands blocks.now [] self.new.machine) }
         ensures going { OnOk result (CanAsk self.new.machine) }

@@ -5,7 +5,6 @@ ghost use Rattle.subsystem.specs.Part.{IsOpen};
 ghost use Rattle.trace_text.specs.Tail.{note_lines, block_lines};
 
 use event_record::Record;
-use mc_machine::is_runnable;
 use pair_core::{Ended, Shown};
 use pair_io::MemSink;
 use s7_base::{
@@ -131,9 +130,6 @@ fn loaded(alloc: Global, blocks: &Blocks) -> Result<Subsystem, Fail>
     let Ok(mut side) = Subsystem::new(alloc) else {
         return Err("no memory".into());
     };
-    if !is_runnable(blocks) {
-        return Err("not played".into());
-    }
     if side.load(alloc, blocks).is_err() {
         return Err("no memory".into());
     }

@@ -453,9 +453,6 @@ fn blocks_are_told(rt: HostRuntime) -> Result<(), Fail> {
     Ok(())
 }
 
-/// A program that reads a peripheral byte, which is not supported yet.
-const PERIPHERAL: &[u8] = b"ORGANIZATION_BLOCK OB 1\nBEGIN\nL PIB 0;\nEND_ORGANIZATION_BLOCK\n";
-
 #[test]
 fn each_refusal_has_its_cause(rt: HostRuntime) -> Result<(), Fail> {
     let alloc = rt.alloc();
@@ -463,13 +460,12 @@ fn each_refusal_has_its_cause(rt: HostRuntime) -> Result<(), Fail> {
     let whole = vec![in alloc; b' '; 1_048_576]?;
     let solo: &[&[u8]] = &[b"solo", b"s", b"p"];
     let load: &[&[u8]] = &[b"load", b"s"];
-    let unplayed = Fault::SourceFault(LoadFault { kind: 99, line: 0 });
     let no_main = Fault::SourceFault(LoadFault { kind: 18, line: 0 });
     let misplaced = Fault::SourceFault(LoadFault { kind: 11, line: 2 });
     let no_end = Fault::ScriptFault(ScriptFault { kind: 6, line: 2 });
     let second_end = Fault::ScriptFault(ScriptFault { kind: 1, line: 2 });
     let missing = Fault::FileFault { which: 0 };
-    let cases: [(&[&[u8]], &[u8], &[u8], Option<u64>, Fault, u8); 24] = [
+    let cases: [(&[&[u8]], &[u8], &[u8], Option<u64>, Fault, u8); 23] = [
         (&[], SOURCE, SCRIPT, None, Fault::Usage, 2),
         (&[b"solo", b"s"], SOURCE, SCRIPT, None, Fault::Usage, 2),
         (
@@ -518,7 +514,6 @@ fn each_refusal_has_its_cause(rt: HostRuntime) -> Result<(), Fail> {
         (solo, SOURCE, &long, None, Fault::TooLong { which: 1 }, 4),
         (solo, &whole, &long, None, no_main, 5),
         (solo, b"\nBEGIN\n", b"", None, misplaced, 5),
-        (solo, PERIPHERAL, b"", None, unplayed, 5),
         (&[b"load"], SOURCE, SCRIPT, None, Fault::Usage, 2),
         (&[b"make"], SOURCE, SCRIPT, None, Fault::Usage, 2),
         (&[b"make", b"s"], SOURCE, SCRIPT, None, Fault::Usage, 2),

@@ -17,16 +17,17 @@ use Rattle.s7_events.specs.declared.entry.Answer.TheVariants as answers
 use Rattle.s7_events.specs.declared.entry.Request.{Request}
 use Rattle.s7_events.specs.Priorities.{is_alarm}
 use Rattle.plant_script.specs.Form.{IsJobForm}
-use Rattle.plant_script.specs.Plan.{Plan, IsPlan}
+use Rattle.plant_script.specs.Plan.{IsPlan}
 use Rattle.alarm_queue.specs.declared.alarm.DueAlarm.{DueAlarm}
-use Rattle.plant_script.specs.InputImage.{image_byte, input_image}
+use Rattle.plant_io.specs.Inputs.{image_byte, input_image}
+use Rattle.plant_io.proofs.Bytes.{read_is, read_four}
 use Rattle.pair_core.specs.Setup.{Setup}
 use Rattle.pair_core.specs.Ledger.{Ledger}
 use Rattle.pair_core.specs.Lawful.{MayAnswer}
 use Rattle.trace_text.specs.Image.{hex, image}
 use Rattle.trace_text.specs.EntryText.{side_word, stop_word, lost_text, answer_text}
-use Rattle.pair_core.proofs.Answers.{answer_any, plain_any}
-use Rattle.pair_core.proofs.Waiting.{IsFit, AreFit, GoesFirst, goes_first}
+use Rattle.pair_core.proofs.Answers.{answer_any, plain_any, image_at}
+use Rattle.pair_core.proofs.Waiting.{IsFit, AreFit, IsFine, GoesFirst, goes_first}
 use Rattle.pair_core.proofs.JobForms.{next_form, job_next}
 use Rattle.trace_laws.proofs.Splits.{Free, IsMark, line_feed, free_by, free_word, free_append, split_at}
 use Rattle.trace_laws.proofs.Numbers.{decimal_free, hex_one, hex_free}
@@ -192,9 +193,9 @@ answer_free k (answers.CpuStop c) t = free_append 10 (codes "CPUSTOP ") (stop_wo
 
 -- lawful answers are told --
 
-image_told : (plan : Plan) (k : ℕ) → length (input_image plan k) ≡ 64
+image_told : (p : Setup) (g : Ledger) → length (image_at p g) ≡ 64
 unfolding input_image
-image_told plan k = length-map-range_with_len (image_byte plan k) 0 64
+image_told p g = length-map-range_with_len (image_byte p.plan g.standing.running.a g.standing.running.b g.inputs g.moment) 0 64
 
 small_block : (ob : ℕ) → is_alarm ob ≡ true → ob < 2 ^ 64
 small_block ob h = grind (arith, nat_tests)
@@ -207,10 +208,13 @@ first_told k priority xs alarm fit first =
     let each = subst AreFit first.is fit in
     subst (λ (a : ℕ × ℕ). IsTold k (answers.Alarm a.0 a.1)) first.same (fit_told k first.first (each.each 0 first.first (omega arith)))
 
--- a lawful answer is told, where the script has no fault and the alarms that wait are such that may be answers
-pub lawful_told : (p : Setup) (g : Ledger) (request : Request) (a : Answer) → IsPlan p.plan → AreFit g.waiting → MayAnswer p g request a → IsTold g.moment a
-lawful_told p g request a fine fit may =
+-- a lawful answer is told, where the script has no fault, the alarms that wait are such that may be answers, and the inputs are of bytes
+pub lawful_told : (p : Setup) (g : Ledger) (request : Request) (a : Answer) → IsPlan p.plan → IsFine g → MayAnswer p g request a → IsTold g.moment a
+lawful_told p g request a fine sound may =
     answer_any (IsTold g.moment) p g request a may (λ t. tt) tt
-    (λ x first. first_told g.moment request.prio g.waiting x fit (goes_first request.prio g.waiting x first))
+    (λ x first. first_told g.moment request.prio g.waiting x sound.waiting (goes_first request.prio g.waiting x first))
     (λ j none next. next_form p.plan g.jobs g.moment j fine (job_next p g request.ask j next))
-    (λ x none is. plain_any (IsTold g.moment) p.plan g.moment request.ask x is tt (image_told p.plan g.moment) tt refl)
+    (λ x none is.
+    plain_any (IsTold g.moment) p g request.ask x is tt (image_told p g) tt refl tt
+    (λ addr width value read. read_four width value (read_is p.plan g.standing.running.a g.standing.running.b g.inputs g.moment addr width value fine sound.inputs read))
+    )

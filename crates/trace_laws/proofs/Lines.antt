@@ -16,7 +16,7 @@ use Rattle.pair_core.specs.Played.{requests_of, answers_of}
 use Rattle.trace_text.specs.EntryText.{ask_text, answer_text}
 use Rattle.plant_script.specs.Plan.{IsPlan}
 use Rattle.pair_core.proofs.Prefixes.{same_entry}
-use Rattle.pair_core.proofs.Waiting.{AreFit, after_fit}
+use Rattle.pair_core.proofs.Waiting.{IsFine, after_fine}
 use Rattle.trace_laws.specs.Determines.{IsRequest, AreRequests}
 use Rattle.trace_laws.proofs.Splits.{free_by, free_append, split_at}
 use Rattle.trace_laws.proofs.AnswerTexts.{IsTold, answer_one, answer_free, lawful_told}
@@ -51,23 +51,23 @@ by_request k x y told told' requests r r' e =
 
 -- the requests of one program are the same where the answers before them are
 pub by_program : (before : List Answer) (p q : Setup) (g h : Ledger) (xs ys : List Entry) → p.program ≡ q.program → g.moment ≡ h.moment
-    → IsPlan p.plan → AreFit g.waiting → IsPlan q.plan → AreFit h.waiting
+    → IsPlan p.plan → IsFine g → IsPlan q.plan → IsFine h
     → requests_of xs ≡ asked_after p.program before (answers_of xs) → LawfulFrom p g xs
     → requests_of ys ≡ asked_after q.program before (answers_of ys) → LawfulFrom q h ys → Tell xs ys
-by_program before p q g h [] ys same here fine wait fine' wait' ax lx ay ly = tt
-by_program before p q g h (x ∷ xs) [] same here fine wait fine' wait' ax lx ay ly = tt
-by_program before p q g h (x ∷ xs) (y ∷ ys) same here fine wait fine' wait' ax lx ay ly =
+by_program before p q g h [] ys same here fine sound fine' sound' ax lx ay ly = tt
+by_program before p q g h (x ∷ xs) [] same here fine sound fine' sound' ax lx ay ly = tt
+by_program before p q g h (x ∷ xs) (y ∷ ys) same here fine sound fine' sound' ax lx ay ly =
     let left : Some x.request ∷ requests_of xs ≡ next_of (std p.program before) ∷ asked_after p.program (before ++ x.answer ∷ []) (answers_of xs) = ax in
     let right : Some y.request ∷ requests_of ys ≡ next_of (std q.program before) ∷ asked_after q.program (before ++ y.answer ∷ []) (answers_of ys) = ay in
     let requests : x.request ≡ y.request = cc in
-    let told = lawful_told p g x.request x.answer fine wait lx.0.answer in
-    let told' : IsTold g.moment y.answer = subst (λ k. IsTold k y.answer) (sym here) (lawful_told q h y.request y.answer fine' wait' ly.0.answer) in (
+    let told = lawful_told p g x.request x.answer fine sound lx.0.answer in
+    let told' : IsTold g.moment y.answer = subst (λ k. IsTold k y.answer) (sym here) (lawful_told q h y.request y.answer fine' sound' ly.0.answer) in (
       by_request g.moment x y told told' requests,
       λ one.
           let answers : y.answer ≡ x.answer = ap (λ (e : Entry). e.answer) (sym one) in
           let behind : requests_of ys ≡ asked_after q.program (before ++ x.answer ∷ []) (answers_of ys) =
           subst (λ (a : Answer). requests_of ys ≡ asked_after q.program (before ++ a ∷ []) (answers_of ys)) answers (cc right) in
-          by_program (before ++ x.answer ∷ []) p q (after p g x) (after q h y) xs ys same (ap (λ k. k + 1) here) fine (after_fit p fine g.moment (after p g x).watch x.answer g.waiting wait) fine' (after_fit q fine' h.moment (after q h y).watch y.answer h.waiting wait') (cc left) lx.1 behind ly.1,
+          by_program (before ++ x.answer ∷ []) p q (after p g x) (after q h y) xs ys same (ap (λ k. k + 1) here) fine (after_fine p fine g x sound) fine' (after_fine q fine' h y sound') (cc left) lx.1 behind ly.1,
     )
 
 -- requests in their ranges are told by their texts --
@@ -99,14 +99,14 @@ by_range_entry : (k : ℕ) (x y : Entry) → IsTold k x.answer → IsTold k y.an
 by_range_entry k x y told told' rx ry r r' e = by_request k x y told told' (request_one x.request y.request _ _ rx ry e) r r' e
 
 pub by_range : (p q : Setup) (g h : Ledger) (xs ys : List Entry) → g.moment ≡ h.moment
-    → IsPlan p.plan → AreFit g.waiting → IsPlan q.plan → AreFit h.waiting
+    → IsPlan p.plan → IsFine g → IsPlan q.plan → IsFine h
     → AreRequests xs → LawfulFrom p g xs → AreRequests ys → LawfulFrom q h ys → Tell xs ys
-by_range p q g h [] ys here fine wait fine' wait' rx lx ry ly = tt
-by_range p q g h (x ∷ xs) [] here fine wait fine' wait' rx lx ry ly = tt
-by_range p q g h (x ∷ xs) (y ∷ ys) here fine wait fine' wait' rx lx ry ly =
-    let told = lawful_told p g x.request x.answer fine wait lx.0.answer in
-    let told' : IsTold g.moment y.answer = subst (λ k. IsTold k y.answer) (sym here) (lawful_told q h y.request y.answer fine' wait' ly.0.answer) in (
+by_range p q g h [] ys here fine sound fine' sound' rx lx ry ly = tt
+by_range p q g h (x ∷ xs) [] here fine sound fine' sound' rx lx ry ly = tt
+by_range p q g h (x ∷ xs) (y ∷ ys) here fine sound fine' sound' rx lx ry ly =
+    let told = lawful_told p g x.request x.answer fine sound lx.0.answer in
+    let told' : IsTold g.moment y.answer = subst (λ k. IsTold k y.answer) (sym here) (lawful_told q h y.request y.answer fine' sound' ly.0.answer) in (
       by_range_entry g.moment x y told told' (All-head (λ e. IsRequest e.request) x xs rx) (All-head (λ e. IsRequest e.request) y ys ry),
-      λ one. by_range p q (after p g x) (after q h y) xs ys (ap (λ k. k + 1) here) fine (after_fit p fine g.moment (after p g x).watch x.answer g.waiting wait) fine' (after_fit q fine' h.moment (after q h y).watch y.answer h.waiting wait')
+      λ one. by_range p q (after p g x) (after q h y) xs ys (ap (λ k. k + 1) here) fine (after_fine p fine g x sound) fine' (after_fine q fine' h y sound')
           (All-tail (λ e. IsRequest e.request) x xs rx) lx.1 (All-tail (λ e. IsRequest e.request) y ys ry) ly.1,
     )

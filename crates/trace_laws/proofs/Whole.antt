@@ -13,7 +13,7 @@ use Rattle.pair_core.specs.declared.endings.Ended.TheVariants.{End, Stop, NoneLe
 use Rattle.pair_core.specs.Setup.{Setup, made_for}
 use Rattle.pair_core.specs.Ledger.{first_ledger}
 use Rattle.pair_core.specs.Endings.{IsEnded}
-use Rattle.pair_core.proofs.Waiting.{first_fit}
+use Rattle.pair_core.proofs.Waiting.{first_fine}
 use Rattle.trace_text.specs.EntryText.{ask_text, answer_text}
 use Rattle.trace_text.specs.Tail.{Tail}
 use Rattle.trace_text.specs.Text.{showing_line, behind_showing, entries_text, record_text, tail_text, last_line}
@@ -169,7 +169,7 @@ text_determines program first second one two e =
     let p = made_for program first.plan first.solo in
     let q = made_for program second.plan second.solo in
     by_lines program program first second one two
-    (by_program [] p q (first_ledger p) (first_ledger q) first.entries second.entries refl refl one.plan (first_fit p one.plan) two.plan (first_fit q two.plan) one.run.requests one.run.lawful two.run.requests two.run.lawful)
+    (by_program [] p q (first_ledger p) (first_ledger q) first.entries second.entries refl refl one.plan (first_fine p one.plan) two.plan (first_fine q two.plan) one.run.requests one.run.lawful two.run.requests two.run.lawful)
     e
 
 pub text_alone_determines : (program other : Program) (first second : Run) → TextAloneDetermines program other first second
@@ -177,5 +177,5 @@ text_alone_determines program other first second one ranges two ranges' e =
     let p = made_for program first.plan first.solo in
     let q = made_for other second.plan second.solo in
     by_lines program other first second one two
-    (by_range p q (first_ledger p) (first_ledger q) first.entries second.entries refl one.plan (first_fit p one.plan) two.plan (first_fit q two.plan) ranges one.run.lawful ranges' two.run.lawful)
+    (by_range p q (first_ledger p) (first_ledger q) first.entries second.entries refl one.plan (first_fine p one.plan) two.plan (first_fine q two.plan) ranges one.run.lawful ranges' two.run.lawful)
     e

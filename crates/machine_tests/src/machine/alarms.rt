@@ -182,8 +182,16 @@ fn each_request_is_made_again_after_an_alarm(rt: HostRuntime) -> Result<(), Fail
     Ok(())
 }
 
-/// So many statements without effect, and one that stores 1 in MB1.
-fn long_block(alloc: Global, number: u8, fillers: u32) -> Result<CodeBlock, Fail> {
+/// Stores 1 in MB1.
+pub(super) const STORE: &str = "L 1;T MB1";
+
+/// So many statements without effect, and then those of a text.
+pub(super) fn long_block(
+    alloc: Global,
+    number: u8,
+    fillers: u32,
+    after: &str,
+) -> Result<CodeBlock, Fail> {
     let mut statements = Vec::new(alloc);
     let Some(filler) = statement_of("NOP 0") else {
         return Err("no statement".into());
@@ -191,7 +199,7 @@ fn long_block(alloc: Global, number: u8, fillers: u32) -> Result<CodeBlock, Fail
     for _ in 0..fillers {
         statements.push(filler)?;
     }
-    push_all(&mut statements, "L 1;T MB1")?;
+    push_all(&mut statements, after)?;
     Ok(CodeBlock::new(CodeKind::Ob, number, 20, statements))
 }
 
@@ -199,9 +207,9 @@ fn long_block(alloc: Global, number: u8, fillers: u32) -> Result<CodeBlock, Fail
 fn a_tick_is_asked_again_after_an_alarm(rt: HostRuntime) -> Result<(), Fail> {
     let alloc = rt.alloc();
     let codes = vec![in alloc;
-        long_block(alloc, 1, 256)?,
-        long_block(alloc, 40, 254)?,
-        long_block(alloc, 41, 256)?,
+        long_block(alloc, 1, 256, STORE)?,
+        long_block(alloc, 40, 254, STORE)?,
+        long_block(alloc, 41, 256, STORE)?,
     ]?;
     let mut machine = machine_with_blocks(alloc, codes, Vec::new(alloc))?;
     play(&rt, &mut machine, 0, &opening());

@@ -10,7 +10,6 @@ new-requires c =
     let plan = plan_of c.in_ok-parts.parts in
     let order : events_fault plan.end no_failures plan.events ≡ None =
     ap (λ events. events_fault plan.end no_failures events) (sym c.deref.ensures.value) ∙ sym c.in_default.ensures in
-    let built : unbuilt_line plan.modules plan.events ≡ None =
-    ap (λ events. unbuilt_line plan.modules events) (sym c.deref-3.ensures.value) ∙ ap (λ modules. unbuilt_line modules c.deref-3.result.now) (sym c.deref-2.ensures.value)
-    ∙ sym c.in_default-unbuilt_line.ensures in
+    let built : unbuilt_line plan.events ≡ None =
+    ap (λ events. unbuilt_line events) (sym c.deref-2.ensures.value) ∙ sym c.in_default-unbuilt_line.ensures in
     plan_is plan c.in_ok-parts.ensures.sound order built

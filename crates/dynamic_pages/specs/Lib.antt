@@ -1,0 +1,3 @@
+pub mod Notes
+pub mod Pages
+pub mod Registers

@@ -1,0 +1,5 @@
+//! Tests of the dynamic pages.
+#![tactic(auto)]
+
+#[cfg(test)]
+mod pages;

@@ -1,0 +1,12 @@
+pub mod Digits
+pub mod Lines
+pub mod Words
+pub mod Forms
+pub mod Accepted
+pub mod Cut
+pub mod Numerals
+pub mod SourceItems
+pub mod SourceFaults
+pub mod SourceStatements
+pub mod SourceBlocks
+pub mod Sources

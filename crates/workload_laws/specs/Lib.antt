@@ -1,0 +1,3 @@
+pub mod MadeScripts
+pub mod Forms
+pub mod MadeSources
